@@ -1,0 +1,4 @@
+pub mod Xor
+pub mod Powers
+pub mod Splice
+pub mod Lists
