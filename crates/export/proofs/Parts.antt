@@ -1,5 +1,5 @@
 -- The parts of an element, field by field. Assumes nothing.
-use mathlib.Core.Path.{◌≡◌, refl, sym}
+use mathlib.Core.Path.{◌≡◌}
 use Prim.Native.Nat.{ℕ}
 use Rattle.node.specs.Element.{offset, top, vacant_pair}
 use Rattle.export.specs.declared.GroatNode.{GroatNode}

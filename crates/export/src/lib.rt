@@ -1,4 +1,6 @@
 // The C functions, over the public functions of the other crates, and nothing else. docs/C-API.md and host/groatlantern.h state each.
+#![tactic(auto)]
+
 ghost use Rattle.std.specs.Prelude.{◌≡◌, length};
 ghost use Rattle.node.specs.Character.{is_character};
 ghost use Rattle.utils.specs.Packed.{pack_size, pack_answer, packed_into, unpack_answer};
@@ -14,7 +16,7 @@ pub const NONE: u32 = 0xffff_ffff;
 
 // An answer that is one number. status: 0, a refusal's number, or NONE; value is 0 unless status is 0.
 #[repr(C)]
-#[derive(Drop)]
+#[derive(Clone, Copy)]
 pub struct GroatAnswer {
     pub status: u32,
     pub value: u32,
@@ -22,7 +24,7 @@ pub struct GroatAnswer {
 
 // A place in a lent run. status: 0 or NONE; next is 0 unless status is 0.
 #[repr(C)]
-#[derive(Drop)]
+#[derive(Clone, Copy)]
 pub struct GroatPlace {
     pub status: u32,
     pub next: u64,
@@ -30,7 +32,7 @@ pub struct GroatPlace {
 
 // The common prefix of two keys: its length, and 0, 1 or 2 as the first key is less, equal or greater.
 #[repr(C)]
-#[derive(Drop)]
+#[derive(Clone, Copy)]
 pub struct GroatCommon {
     pub lcp: u64,
     pub ord: u32,
@@ -38,7 +40,7 @@ pub struct GroatCommon {
 
 // The parts of an element; the last three are 0 or 1.
 #[repr(C)]
-#[derive(Drop)]
+#[derive(Clone, Copy)]
 pub struct GroatNode {
     pub base: u32,
     pub check: u32,
@@ -64,7 +66,7 @@ pub extern "C" fn groat_pack_size(n: u32) -> u8
 // Packs the lowest nbytes bytes of n into out from the place at on.
 #[unsafe(no_mangle)]
 pub extern "C" fn groat_pack_u32(out: &mut [u8], at: usize, n: u32, nbytes: u8) -> GroatPlace
-    ensures value { result ≡ placed (pack_answer (length out.old) at nbytes) }
+    ensures answer { result ≡ placed (pack_answer (length out.old) at nbytes) }
     ensures out_after { out.new ≡ packed_into out.old at n nbytes }
 {
     match utils::pack_u32(out, at, n, nbytes) {

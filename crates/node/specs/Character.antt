@@ -1,5 +1,5 @@
 -- What a character is, and what a number of a query is refused for. Assumes nothing.
-use Rattle.std.specs.Prelude.{Bool, cond, not, ◌&&◌, ◌||◌, ℕ, nat_le, nat_lt, ◌==◌}
+use Rattle.std.specs.Prelude.{Bool, cond, not, ◌&&◌, ℕ, nat_le, ◌==◌}
 use Rattle.node.specs.Constants.{end_marker}
 
 -- row 11: "not a character: D800 to DFFF, or above 10FFFF"

@@ -1,8 +1,8 @@
 -- The parts of a number and of an element: the methods of `Node` in src/lib.rs, and document 01's words for them ('Soundness rules', first paragraph). An
 -- element is known by its number e in two runs, base and check. Assumes nothing.
-use Rattle.std.specs.Prelude.{Bool, ◌&&◌, List, [], ◌∷◌, ◌++◌, ℕ, ◌%◌, slice_index, nat_le, ◌==◌}
+use Rattle.std.specs.Prelude.{Bool, ◌&&◌, List, ℕ, ◌%◌, slice_index, nat_le, ◌==◌}
 use Rattle.std.specs.Int.Bits.{bit_xor}
-use Rattle.node.specs.Constants.{offset_mask, top_bit}
+use Rattle.node.specs.Constants.{offset_mask}
 
 -- `x & OFFSET_MASK`: a 32-bit number without its top bit
 unfoldable pub offset : ℕ → ℕ

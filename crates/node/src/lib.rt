@@ -1,5 +1,7 @@
 // src/lib.rs of the crate: the constants, the element `Node`, and what document 01 adds to every call: the limits, the refusals and what a character is.
-ghost use Rattle.std.specs.Prelude.{◌≡◌, ◌++◌, ◌+◌, ◌*◌, ◌<◌, ◌≤◌, length};
+#![tactic(auto)]
+
+ghost use Rattle.std.specs.Prelude.{◌≡◌};
 ghost use Rattle.node.specs.Element.{offset, top, vacant_pair};
 ghost use Rattle.node.specs.Limits.{arrays_over, query_over, build_over, key_over};
 ghost use Rattle.node.specs.Character.{is_character, character_refusal};
@@ -21,7 +23,7 @@ pub const END_MARKER: u32 = 0xffff;
 pub const TOP_BIT: u32 = 0x8000_0000;
 
 // Document 01's table of refusals, in its order.
-#[derive(Drop)]
+#[derive(Clone, Copy)]
 pub enum Refusal {
     // 10: ends and values differ in number, ends fall, or the last end is not the run's length
     Uneven,
@@ -118,6 +120,7 @@ pub fn refusal_rule(r: Refusal) -> u32
 }
 
 // A number without its top bit: `x & OFFSET_MASK`.
+#[tactic(auto, unfolding(crate::specs::Element::offset))]
 pub fn masked(x: u32) -> u32
     ensures { result ≡ offset x }
 {
@@ -125,6 +128,7 @@ pub fn masked(x: u32) -> u32
 }
 
 // Whether the top bit is set: `x & !OFFSET_MASK != 0`.
+#[tactic(auto, unfolding(crate::specs::Element::top))]
 pub fn has_top(x: u32) -> bool
     ensures { result ≡ top x }
 {
@@ -132,7 +136,7 @@ pub fn has_top(x: u32) -> bool
 }
 
 // An element: its two numbers.
-#[derive(Drop)]
+#[derive(Clone, Copy)]
 pub struct Node {
     pub base: u32,
     pub check: u32,
@@ -163,6 +167,7 @@ impl Node {
         has_top(self.check)
     }
 
+    #[tactic(auto, unfolding(crate::specs::Element::vacant_pair))]
     pub fn is_vacant(self) -> bool
         ensures { result ≡ vacant_pair self.base self.check }
     {
@@ -180,6 +185,7 @@ impl Node {
 }
 
 // Does the number of elements, of the table or of the tail bytes pass its limit?
+#[tactic(auto, unfolding(crate::specs::Limits::arrays_over))]
 pub fn arrays_over(elems: usize, table: usize, tails: usize) -> bool
     ensures { result ≡ arrays_over elems table tails }
 {
@@ -193,6 +199,7 @@ pub fn arrays_over(elems: usize, table: usize, tails: usize) -> bool
 }
 
 // Does one of these or the query's length pass its limit?
+#[tactic(auto, unfolding(crate::specs::Limits::query_over))]
 pub fn query_over(elems: usize, table: usize, tails: usize, query: usize) -> bool
     ensures { result ≡ query_over elems table tails query }
 {
@@ -203,6 +210,7 @@ pub fn query_over(elems: usize, table: usize, tails: usize, query: usize) -> boo
 }
 
 // Does the number of records or of all keys' characters pass its limit?
+#[tactic(auto, unfolding(crate::specs::Limits::build_over))]
 pub fn build_over(records: usize, keys: usize) -> bool
     ensures { result ≡ build_over records keys }
 {
@@ -213,6 +221,7 @@ pub fn build_over(records: usize, keys: usize) -> bool
 }
 
 // Does a key's length pass its limit?
+#[tactic(auto, unfolding(crate::specs::Limits::key_over))]
 pub fn key_over(key: usize) -> bool
     ensures { result ≡ key_over key }
 {
@@ -220,6 +229,7 @@ pub fn key_over(key: usize) -> bool
 }
 
 // Is this number a character: up to 10FFFF, and not from D800 to DFFF?
+#[tactic(auto, unfolding(crate::specs::Character::is_character))]
 pub fn is_character(c: u32) -> bool
     ensures { result ≡ is_character c }
 {
@@ -233,6 +243,7 @@ pub fn is_character(c: u32) -> bool
 }
 
 // A refusal that a number of a query meets by itself, as its number: 11, 2, or 0 for none. A number, so that a walk gets it in a register.
+#[tactic(auto, unfolding(crate::specs::Character::is_character, crate::specs::Character::character_refusal))]
 pub fn character_refusal(c: u32) -> u32
     ensures { result ≡ character_refusal c }
 {

@@ -1,22 +1,20 @@
 -- The facts about packed numbers, proved once over the width: how many bytes, what they are worth, packing then unpacking and back, and the turns of the two
 -- loops. Assumes nothing.
-use mathlib.Core.Path.{◌≡◌, refl, sym, ap, ◌∙◌, subst}
-use mathlib.Core.Bool.{Bool, true, false, cond}
+use mathlib.Core.Path.{◌≡◌, refl, sym, ap, ◌∙◌}
+use mathlib.Core.Bool.{true, false}
 use mathlib.Core.List.{List, [], ◌∷◌, ◌++◌, append_assoc}
 use Prim.Native.Nat.{ℕ, zero, suc, ◌+◌, ◌-◌, ◌*◌, ◌/◌, ◌%◌, ◌^◌, ◌<◌, ◌≤◌}
-use native.Mathlib.Nat.{pow-suc, div-add-mod', mod-lt, mod-eq_of_lt, mod-one, add-zero, le_of_suc-le-suc, not-suc-le-zero}
+use native.Mathlib.Nat.{pow-suc, mod-lt, mod-eq_of_lt, mod-one, add-zero, le_of_suc-le-suc, not-suc-le-zero}
 use native.Mathlib.Numerals.{add-one}
 use native.Mathlib.Omega.{arith}
 use lib.ListN.{length, get_or, take, drop, set, length-append, length-take, length-drop, length-set}
 use lib.Arith.{digits_lt, digits_div, digits_mod, mod-mul}
 use lib.Dec.{ltb}
-use lib.Seq.{drop-cons, set_at, drop-drop, get_or-drop, length-take-le}
-use borrow.Author.Tests.{ltb-true, ltb-false, leb-true, lt-ltb, le-ltb, le-leb, lt-leb}
+use lib.Seq.{drop-cons, set_at, length-take-le}
+use borrow.Author.Tests.{ltb-true, le-leb, lt-leb}
 use Rattle.laws.proofs.Lists.{decide}
 use Rattle.utils.specs.Packed.{pack_size, packed, unpacked, width_ok, readable, packable, pack_answer, packed_into, unpack_answer}
-use Rattle.utils.specs.declared.Packed.{Packed}
 use Rattle.utils.specs.declared.Packed.TheVariants.{Next, NoRoom}
-use Rattle.utils.specs.declared.Unpacked.{Unpacked}
 use Rattle.utils.specs.declared.Unpacked.TheVariants.{Number, Short}
 
 -- ---- how many bytes, and that each is one

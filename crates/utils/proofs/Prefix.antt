@@ -1,13 +1,11 @@
 -- The turns of `longest_common_prefix`. Assumes nothing.
-use mathlib.Core.Path.{◌≡◌, refl, sym, ap, ◌∙◌}
-use mathlib.Core.List.{List, [], ◌∷◌}
-use Prim.Native.Nat.{ℕ, zero, suc, ◌+◌, ◌<◌, ◌≤◌}
-use native.Mathlib.Nat.{lt_irrefl}
+use mathlib.Core.Path.{◌≡◌, refl, sym, ◌∙◌}
+use mathlib.Core.List.{List}
+use Prim.Native.Nat.{ℕ, suc, ◌+◌, ◌<◌, ◌≤◌}
 use native.Mathlib.Numerals.{add-one}
 use native.Mathlib.Omega.{arith}
 use lib.ListN.{length, get_or, drop, drop_of_length-le}
 use lib.Seq.{drop-cons}
-use lib.Dec.{ltb, eqb}
 use borrow.Author.Tests.{lt-ltb, le-ltb, eq-eqb, ne_eqb}
 use Rattle.utils.specs.Common.{common, ordering}
 use Rattle.utils.specs.declared.Ordering.{Ordering}
@@ -25,10 +23,10 @@ none_passed a b = record { in_a = omega arith; in_b = omega arith; shared = omeg
 
 module _ (a b : List ℕ) (i : ℕ) (p : Passed a b i) where
   abbrev pub Ends : Ordering → Type 0
-  Ends o = (i ≡ common a b) × (o ≡ ordering a b)
+  Ends o = record { lcp : i ≡ common a b; ord : o ≡ ordering a b }
 
   ends_by : (o : Ordering) → common (drop i a) (drop i b) ≡ 0 → ordering (drop i a) (drop i b) ≡ o → Ends o
-  ends_by o z e = (omega (arith, p.shared), sym (p.ordered ∙ e))
+  ends_by o z e = record { lcp = omega (arith, p.shared); ord = sym (p.ordered ∙ e) }
 
   -- b ends here and a does not, or the other way, or both do
   pub b_ends : i < length a → length b ≤ i → Ends Greater

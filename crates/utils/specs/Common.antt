@@ -1,5 +1,5 @@
 -- The common prefix of two keys, and their order: document 01, module 1, "length and order; a proper prefix is less". Assumes nothing.
-use Rattle.std.specs.Prelude.{cond, List, [], ◌∷◌, ℕ, zero, suc, nat_lt, ◌==◌}
+use Rattle.std.specs.Prelude.{cond, List, [], ◌∷◌, ℕ, suc, nat_lt, ◌==◌}
 use Rattle.utils.specs.declared.Ordering.{Ordering}
 use Rattle.utils.specs.declared.Ordering.TheVariants.{Less, Equal, Greater}
 

@@ -1,23 +1,25 @@
 // src/utils.rs of the crate: packed numbers, and the common prefix of two keys.
+#![tactic(auto)]
+
 ghost use Rattle.std.specs.Prelude.{◌≡◌, ◌++◌, ◌+◌, ◌<◌, ◌≤◌, length, take, drop};
 ghost use Rattle.utils.specs.Packed.{pack_size, packed, pack_answer, packed_into, unpacked, unpack_answer};
 ghost use Rattle.utils.specs.Common.{common, ordering};
 
 // What packing answers: the place behind the number, or that the width is not 1 to 4 or the room too short.
-#[derive(Drop)]
+#[derive(Clone, Copy)]
 pub enum Packed {
     Next(usize),
     NoRoom,
 }
 
 // What unpacking answers: the number, or that the width is not 1 to 4 or the part too short.
-#[derive(Drop)]
+#[derive(Clone, Copy)]
 pub enum Unpacked {
     Number(u32),
     Short,
 }
 
-#[derive(Drop)]
+#[derive(Clone, Copy)]
 pub enum Ordering {
     Less,
     Equal,
@@ -25,13 +27,14 @@ pub enum Ordering {
 }
 
 // The length of the longest common prefix of two keys, and their order.
-#[derive(Drop)]
+#[derive(Clone, Copy)]
 pub struct Common {
     pub lcp: usize,
     pub ord: Ordering,
 }
 
 // The smallest number of bytes that can encode n.
+#[tactic(auto, unfolding(crate::specs::Packed::pack_size))]
 pub fn pack_size(n: u32) -> u8
     ensures { result ≡ pack_size n }
 {
@@ -48,8 +51,9 @@ pub fn pack_size(n: u32) -> u8
 }
 
 // Writes the lowest nbytes bytes of n into out, from the place at on.
+#[tactic(auto, unfolding(crate::specs::Packed::pack_answer, crate::specs::Packed::packed_into, crate::specs::Packed::packable, crate::specs::Packed::width_ok))]
 pub fn pack_u32(out: &mut [u8], at: usize, n: u32, nbytes: u8) -> Packed
-    ensures value { result ≡ pack_answer (length out.old) at nbytes }
+    ensures answer { result ≡ pack_answer (length out.old) at nbytes }
     ensures out_after { out.new ≡ packed_into out.old at n nbytes }
 {
     if nbytes == 0 {
@@ -70,6 +74,7 @@ pub fn pack_u32(out: &mut [u8], at: usize, n: u32, nbytes: u8) -> Packed
 }
 
 // The number in the first nbytes bytes of slice.
+#[tactic(auto, unfolding(crate::specs::Packed::unpack_answer, crate::specs::Packed::readable, crate::specs::Packed::width_ok))]
 pub fn unpack_u32(slice: &[u8], nbytes: u8) -> Unpacked
     ensures { result ≡ unpack_answer slice.now nbytes }
 {
@@ -88,8 +93,8 @@ pub fn unpack_u32(slice: &[u8], nbytes: u8) -> Unpacked
 
 // The length of the longest common prefix of a and b, and their order.
 pub fn longest_common_prefix(a: &[u32], b: &[u32]) -> Common
-    ensures lcp_value { result.lcp ≡ common a.now b.now }
-    ensures ord_value { result.ord ≡ ordering a.now b.now }
+    ensures lcp { result.lcp ≡ common a.now b.now }
+    ensures ord { result.ord ≡ ordering a.now b.now }
 {
     let mut i = 0;
     while i < a.len() {

@@ -1,5 +1,5 @@
 -- The refusals of a query around its walk, in document 01's order: "a query 12, then 11 or 2 by the first offending character, 22, 23". Assumes nothing.
-use Rattle.std.specs.Prelude.{Bool, cond, List, [], ◌∷◌, ◌++◌, map, ℕ, zero, suc, min, length, drop, nat_lt, ◌==◌}
+use Rattle.std.specs.Prelude.{Bool, cond, List, [], ◌∷◌, ◌++◌, map, ℕ, length, drop, nat_lt, ◌==◌}
 use Rattle.node.specs.declared.Refusal.{Refusal}
 use Rattle.node.specs.declared.Refusal.TheVariants.{Limit, NoCharacter, EndMarker, Outside, MatchRoom}
 use Rattle.node.specs.Character.{character_refusal}

@@ -1,6 +1,6 @@
 -- The minimal-prefix walk: it stops at a leaf, and the rest of the query is held against the leaf's tail, read by read as src/mptrie.rs and its `TailIter` do
 -- it. cw and vw are the widths of a code and of a value. Assumes nothing.
-use Rattle.std.specs.Prelude.{Bool, cond, List, [], ◌∷◌, ℕ, zero, suc, length, drop, nat_lt, ◌==◌}
+use Rattle.std.specs.Prelude.{cond, List, [], ◌∷◌, ℕ, zero, suc, drop, nat_lt, ◌==◌}
 use Rattle.std.proofs.Math.Option.{Option, none, some}
 use Rattle.node.specs.Element.{base_of, leaf}
 use Rattle.utils.specs.Packed.{unpacked, readable}

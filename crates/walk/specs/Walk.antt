@@ -1,6 +1,6 @@
 -- The walk of a query down the elements, read by read as src/trie.rs and src/mptrie.rs do it, over how a code is found (f). N is how many elements are lent:
 -- the length of the shorter of base and check. Assumes nothing.
-use Rattle.std.specs.Prelude.{Bool, cond, List, [], ◌∷◌, ℕ, suc, min, length, nat_lt, ◌==◌}
+use Rattle.std.specs.Prelude.{cond, List, [], ◌∷◌, ℕ, suc, min, length, nat_lt, ◌==◌}
 use Rattle.std.proofs.Math.Option.{Option, none, some}
 use Rattle.std.specs.Int.Bits.{bit_xor}
 use Rattle.node.specs.Constants.{end_code}

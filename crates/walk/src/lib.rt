@@ -1,8 +1,10 @@
 // What both forms of trie share: a query's refusals, the step to a child, the tail of a leaf.
+#![tactic(auto)]
+
 use node::Refusal;
 
 // What exact match answers.
-#[derive(Drop)]
+#[derive(Clone, Copy)]
 pub enum Lookup {
     Found(u32),
     Nothing,
@@ -10,7 +12,7 @@ pub enum Lookup {
 }
 
 // What common-prefix search answers: how many matches it wrote.
-#[derive(Drop)]
+#[derive(Clone, Copy)]
 pub enum Search {
     Matched(usize),
     Failed(Refusal),
