@@ -1,7 +1,7 @@
-//! Links the static library that `rt staticlib export` makes, and compiles the original crate, unchanged, as the oracle of the
+//! Links the static library that `rt lib` makes in crates/export, and compiles the original crate, unchanged, as the oracle of the
 //! differential runs where its source is at hand.
 //!
-//! - `GROAT_STATICLIB`: the folder of `libexport.a` (default `../target/staticlib`).
+//! - `GROAT_STATICLIB`: the folder of `libexport.a` (default `../crates/export/out`).
 //! - `CRAWDAD_SRC`: the folder of the crate's source, which holds `src/lib.rs` (default `../../shared/docs/src`).
 
 use std::env;
@@ -15,7 +15,7 @@ fn folder(variable: &str, default: &str) -> PathBuf {
 }
 
 fn main() {
-    let library = folder("GROAT_STATICLIB", "../target/staticlib");
+    let library = folder("GROAT_STATICLIB", "../crates/export/out");
     println!("cargo:rustc-link-search=native={}", library.display());
     println!("cargo:rustc-link-lib=static=export");
     println!("cargo:rerun-if-changed={}", library.join("libexport.a").display());
