@@ -1,4 +1,4 @@
--- The constants of src/lib.rs and src/mapper.rs, by their Rust names. Document 01, 'In, out, and what decides'. Assumes nothing.
+-- The constants of src/lib.rs and src/mapper.rs, by their Rust names in lower case. Document 01, 'In, out, and what decides'. Assumes nothing.
 use Rattle.std.specs.Prelude.{ℕ}
 
 -- every bit but the top one of a 32-bit number

@@ -92,6 +92,7 @@ pub fn unpack_u32(slice: &[u8], nbytes: u8) -> Unpacked
 }
 
 // The length of the longest common prefix of a and b, and their order.
+#[tactic(auto, using(crate::proofs::Prefix::b_ends, crate::proofs::Prefix::a_ends, crate::proofs::Prefix::both_end, crate::proofs::Prefix::lower, crate::proofs::Prefix::higher))]
 pub fn longest_common_prefix(a: &[u32], b: &[u32]) -> Common
     ensures lcp { result.lcp ≡ common a.now b.now }
     ensures ord { result.ord ≡ ordering a.now b.now }
