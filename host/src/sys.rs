@@ -1,4 +1,4 @@
-//! The C functions, declared: the one place that does. `tests/boundary.rs` holds this file, the header `groatlantern.h` and the
+//! The C functions, declared: the one place that does. `src/boundary.rs` holds this file, the header `groatlantern.h` and the
 //! source `crates/export/src/lib.rt` together.
 
 /// The status of an answer where there is nothing to answer.

@@ -1,12 +1,8 @@
 -- The numbers of the C answers. status is 0 where there is an answer, a refusal's number of document 01 where the call is refused, and all ones where the
 -- answer is that there is none. Assumes nothing.
-use Rattle.std.specs.Prelude.{Bool, true, false, ℕ}
-use Rattle.utils.specs.declared.Packed.{Packed}
-use Rattle.utils.specs.declared.Packed.TheVariants.{Next, NoRoom}
-use Rattle.utils.specs.declared.Unpacked.{Unpacked}
-use Rattle.utils.specs.declared.Unpacked.TheVariants.{Number, Short}
-use Rattle.utils.specs.declared.Ordering.{Ordering}
-use Rattle.utils.specs.declared.Ordering.TheVariants.{Less, Equal, Greater}
+use Rattle.std.specs.Prelude.{Bool, true, false, ℕ, Option, Some, None}
+use Rattle.std.specs.declared.cmp.Ordering.{Ordering}
+use Rattle.std.specs.declared.cmp.Ordering.TheVariants.{Less, Equal, Greater}
 use Rattle.export.specs.declared.GroatAnswer.{GroatAnswer}
 use Rattle.export.specs.declared.GroatPlace.{GroatPlace}
 use Rattle.export.specs.declared.GroatCommon.{GroatCommon}
@@ -21,13 +17,13 @@ abbrev pub flag : Bool → ℕ
 flag true = 1
 flag false = 0
 
-abbrev pub placed : Packed → GroatPlace
-placed (Next n) = record { status = 0; next = n }
-placed NoRoom = record { status = no_answer; next = 0 }
+abbrev pub placed : Option ℕ → GroatPlace
+placed (Some n) = record { status = 0; next = n }
+placed None = record { status = no_answer; next = 0 }
 
-abbrev pub unpacked_as : Unpacked → GroatAnswer
-unpacked_as (Number n) = record { status = 0; value = n }
-unpacked_as Short = record { status = no_answer; value = 0 }
+abbrev pub unpacked_as : Option ℕ → GroatAnswer
+unpacked_as (Some n) = record { status = 0; value = n }
+unpacked_as None = record { status = no_answer; value = 0 }
 
 abbrev pub order_number : Ordering → ℕ
 order_number Less = 0

@@ -9,12 +9,14 @@ ghost use Rattle.mapper.specs.Code.{code};
 ghost use Rattle.export.specs.Numbers.{placed, unpacked_as, common_parts, node_parts, flag};
 
 use node::Node;
-use utils::{Ordering, Packed, Unpacked};
+use std::cmp::Ordering;
+use utils::Common;
 
-// The status of an answer where there is none: no such key, no such number.
+/// The status of an answer where there is none: no such key, no such number.
 pub const NONE: u32 = 0xffff_ffff;
 
-// An answer that is one number. status: 0, a refusal's number, or NONE; value is 0 unless status is 0.
+/// An answer that is one number. status: 0, a refusal's number, or NONE; value is 0 unless status is 0.
+// A status beside a value: the C interface has no `Option` and no `Result`.
 #[repr(C)]
 #[derive(Clone, Copy)]
 pub struct GroatAnswer {
@@ -22,7 +24,8 @@ pub struct GroatAnswer {
     pub value: u32,
 }
 
-// A place in a lent run. status: 0 or NONE; next is 0 unless status is 0.
+/// A place in a lent run. status: 0 or NONE; next is 0 unless status is 0.
+// A status beside a value, and a type of its own for 64 bits: the C interface.
 #[repr(C)]
 #[derive(Clone, Copy)]
 pub struct GroatPlace {
@@ -30,7 +33,8 @@ pub struct GroatPlace {
     pub next: u64,
 }
 
-// The common prefix of two keys: its length, and 0, 1 or 2 as the first key is less, equal or greater.
+/// The common prefix of two keys: its length, and 0, 1 or 2 as the first key is less, equal or greater.
+// An order as a number: the C interface, over which no enum crosses.
 #[repr(C)]
 #[derive(Clone, Copy)]
 pub struct GroatCommon {
@@ -38,7 +42,8 @@ pub struct GroatCommon {
     pub ord: u32,
 }
 
-// The parts of an element; the last three are 0 or 1.
+/// The parts of an element; the last three are 0 or 1.
+// Flags as numbers: the C interface.
 #[repr(C)]
 #[derive(Clone, Copy)]
 pub struct GroatNode {
@@ -49,13 +54,65 @@ pub struct GroatNode {
     pub vacant: u32,
 }
 
-fn bit(b: bool) -> u32
-    ensures { result ≡ flag b }
-{
-    if b { 1 } else { 0 }
+impl From<Option<u32>> for GroatAnswer {
+    ghost from_gives = { λ found answer. answer ≡ unpacked_as found };
+
+    fn from(found: Option<u32>) -> GroatAnswer {
+        match found {
+            Some(value) => GroatAnswer { status: 0, value },
+            None => GroatAnswer {
+                status: NONE,
+                value: 0,
+            },
+        }
+    }
 }
 
-// The smallest number of bytes that holds n.
+impl From<Option<usize>> for GroatPlace {
+    ghost from_gives = { λ found place. place ≡ placed found };
+
+    fn from(found: Option<usize>) -> GroatPlace {
+        match found {
+            Some(next) => GroatPlace {
+                status: 0,
+                next: next as u64,
+            },
+            None => GroatPlace {
+                status: NONE,
+                next: 0,
+            },
+        }
+    }
+}
+
+impl From<Common> for GroatCommon {
+    ghost from_gives = { λ found parts. parts ≡ common_parts found.lcp found.ord };
+
+    fn from(found: Common) -> GroatCommon {
+        let lcp = found.lcp as u64;
+        match found.ord {
+            Ordering::Less => GroatCommon { lcp, ord: 0 },
+            Ordering::Equal => GroatCommon { lcp, ord: 1 },
+            Ordering::Greater => GroatCommon { lcp, ord: 2 },
+        }
+    }
+}
+
+impl From<Node> for GroatNode {
+    ghost from_gives = { λ element parts. parts ≡ node_parts element.base element.check };
+
+    fn from(element: Node) -> GroatNode {
+        GroatNode {
+            base: element.get_base(),
+            check: element.get_check(),
+            leaf: u32::from(element.is_leaf()),
+            marked: u32::from(element.has_leaf()),
+            vacant: u32::from(element.is_vacant()),
+        }
+    }
+}
+
+/// The smallest number of bytes that holds n.
 #[unsafe(no_mangle)]
 pub extern "C" fn groat_pack_size(n: u32) -> u8
     ensures { result ≡ pack_size n }
@@ -63,80 +120,52 @@ pub extern "C" fn groat_pack_size(n: u32) -> u8
     utils::pack_size(n)
 }
 
-// Packs the lowest nbytes bytes of n into out from the place at on.
+/// Packs the lowest nbytes bytes of n into out from the place at on.
 #[unsafe(no_mangle)]
 pub extern "C" fn groat_pack_u32(out: &mut [u8], at: usize, n: u32, nbytes: u8) -> GroatPlace
     ensures answer { result ≡ placed (pack_answer (length out.old) at nbytes) }
     ensures out_after { out.new ≡ packed_into out.old at n nbytes }
 {
-    match utils::pack_u32(out, at, n, nbytes) {
-        Packed::Next(next) => GroatPlace {
-            status: 0,
-            next: next as u64,
-        },
-        Packed::NoRoom => GroatPlace {
-            status: NONE,
-            next: 0,
-        },
-    }
+    utils::pack_u32(out, at, n, nbytes).into()
 }
 
-// The number in the first nbytes bytes of slice.
+/// The number in the first nbytes bytes of slice.
 #[unsafe(no_mangle)]
 pub extern "C" fn groat_unpack_u32(slice: &[u8], nbytes: u8) -> GroatAnswer
     ensures { result ≡ unpacked_as (unpack_answer slice.now nbytes) }
 {
-    match utils::unpack_u32(slice, nbytes) {
-        Unpacked::Number(value) => GroatAnswer { status: 0, value },
-        Unpacked::Short => GroatAnswer {
-            status: NONE,
-            value: 0,
-        },
-    }
+    utils::unpack_u32(slice, nbytes).into()
 }
 
-// The length of the longest common prefix of two keys, and their order.
+/// The length of the longest common prefix of two keys, and their order.
 #[unsafe(no_mangle)]
 pub extern "C" fn groat_longest_common_prefix(a: &[u32], b: &[u32]) -> GroatCommon
     ensures { result ≡ common_parts (common a.now b.now) (ordering a.now b.now) }
 {
-    let found = utils::longest_common_prefix(a, b);
-    let lcp = found.lcp as u64;
-    let ord = found.ord;
-    match ord {
-        Ordering::Less => GroatCommon { lcp, ord: 0 },
-        Ordering::Equal => GroatCommon { lcp, ord: 1 },
-        Ordering::Greater => GroatCommon { lcp, ord: 2 },
-    }
+    utils::longest_common_prefix(a, b).into()
 }
 
-// The parts of the element with these two numbers.
+/// The parts of the element with these two numbers.
 #[unsafe(no_mangle)]
 pub extern "C" fn groat_node(base: u32, check: u32) -> GroatNode
     ensures { result ≡ node_parts base check }
 {
-    let element = Node { base, check };
-    GroatNode {
-        base: element.get_base(),
-        check: element.get_check(),
-        leaf: bit(element.is_leaf()),
-        marked: bit(element.has_leaf()),
-        vacant: bit(element.is_vacant()),
-    }
+    Node { base, check }.into()
 }
 
-// 1 if c is a character, else 0.
+//// 1 if c is a character, else 0: a flag as a number, for the C interface.
 #[unsafe(no_mangle)]
 pub extern "C" fn groat_is_character(c: u32) -> u32
     ensures { result ≡ flag (is_character c) }
 {
-    bit(node::is_character(c))
+    u32::from(node::is_character(c))
 }
 
-// The code of a character in a table; all ones where it has none.
+//// The code of a character in a table; all ones, for the C interface, where it has none.
+#[tactic(auto, using(mapper::proofs::Find::unwrap_find))]
 #[unsafe(no_mangle)]
 pub extern "C" fn groat_code_of(table: &[u32], c: u32) -> u32
     ensures { result ≡ code table.now c }
 {
-    mapper::code_of(table, c)
+    mapper::code_of(table, c).unwrap_or(NONE)
 }

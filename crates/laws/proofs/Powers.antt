@@ -1,22 +1,11 @@
 -- Powers of two, and what makes a number the least power of two that is not below another: `next_power_of_two`. Assumes nothing.
-use mathlib.Core.Path.{◌≡◌, refl, sym, ap, ◌∙◌, subst}
-use Prim.Native.Nat.{ℕ, zero, suc, ◌+◌, ◌-◌, ◌*◌, ◌^◌, ◌≤◌, ◌<◌}
-use native.Mathlib.Nat.{pow-suc, add-zero, lt_of_not-le}
-use native.Mathlib.Decide.{dec_le}
-use native.Mathlib.Omega.{arith}
-use lib.Pow.{pow_pos}
+use Rattle.std.proofs.Common.{◌≡◌, refl, sym, ap, ◌∙◌, ℕ, zero, suc, ◌-◌, ◌^◌, ◌≤◌, ◌<◌, pow-suc, lt_of_not-le, arith, pow_pos, pow_mono}
+use Rattle.std.proofs.Math.Decide.{dec_le}
 
 -- every number is below its power of two
 pub lt-pow : (n : ℕ) → n < 2 ^ n
 lt-pow zero = pow_pos 0
 lt-pow (suc n) = rw pow-suc (omega (arith, lt-pow n))
-
--- a longer power is no smaller
-pub pow-le : (j d : ℕ) → 2 ^ j ≤ 2 ^ (j + d)
-pow-le j zero = subst (λ (m : ℕ). 2 ^ j ≤ 2 ^ m) (sym (add-zero j)) (omega arith)
-pow-le j (suc d) =
-    let e : 2 ^ (j + suc d) ≡ 2 ^ (j + d) * 2 = subst (λ (m : ℕ). 2 ^ m ≡ 2 ^ (j + d) * 2) (omega arith) (pow-suc 2 (j + d)) in
-    omega (arith, pow-le j d, e)
 
 -- m is the least power of two, from 2 on, that is not below a
 pub record LeastPower (a m : ℕ) : Type 0 where
@@ -49,5 +38,5 @@ LeastPower_by_half a w h e below =
     least k hk le (yes q) = q
     least k hk le (no q) =
         let lt : k < w = lt_of_not-le q in
-        let s : k + (w - 1 - k) ≡ w - 1 = omega arith in
-        absurd (omega (arith, below (omega arith), subst (λ (m : ℕ). 2 ^ k ≤ 2 ^ m) s (pow-le k (w - 1 - k))))
+        let shorter : k ≤ w - 1 = omega arith in
+        absurd (omega (arith, below (omega arith), pow_mono shorter))

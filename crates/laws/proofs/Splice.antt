@@ -1,11 +1,6 @@
 -- Parts of a run that were lent and are back: `&s[a..]` is what follows the first a places, and what a callee left of `&mut s[a..]` is said of the whole run.
 -- One law for every section and every reader. Assumes nothing.
-use native.Mathlib.Omega.{arith}
-use Prim.Native.Nat.{ℕ, ◌+◌, ◌-◌}
-use mathlib.Core.Path.{◌≡◌}
-use mathlib.Core.List.{List, [], ◌++◌, append_assoc, append-nil}
-use lib.ListN.{length, take, drop, length-append, length-drop, drop_of_length-le}
-use lib.Seq.{take_at, drop_at, take_all}
+use Rattle.std.proofs.Common.{arith, ℕ, ◌+◌, ◌-◌, ◌≡◌, List, [], ◌++◌, append_assoc, append-nil, length, take, drop, length-append, length-drop, drop_of_length-le, take_at, drop_at, take_all}
 
 -- the part `&s[n..]` reaches the borrow checker as `take (length s - n) (drop n s)`: it is `drop n s`
 pub rest_is : (s : List ℕ) (n : ℕ) → take (length s - n) (drop n s) ≡ drop n s

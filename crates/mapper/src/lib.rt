@@ -2,17 +2,17 @@
 #![tactic(auto)]
 
 ghost use Rattle.std.specs.Prelude.{◌≡◌};
-ghost use Rattle.mapper.specs.Code.{code};
+ghost use Rattle.mapper.specs.Code.{find};
 
-// The table's entry at a character, or INVALID_CODE past the table: a number, so that a walk gets it in a register.
-#[tactic(auto, unfolding(crate::specs::Code::code))]
-pub fn code_of(table: &[u32], c: u32) -> u32
-    ensures { result ≡ code table.now c }
+use node::INVALID_CODE;
+
+/// The code of a character in a table: its entry, unless it is past the table or its entry is `INVALID_CODE`.
+#[tactic(auto, unfolding(crate::specs::Code::find, crate::specs::Code::code))]
+pub fn code_of(table: &[u32], c: u32) -> Option<u32>
+    ensures { result ≡ find table.now c }
 {
-    let k = c as usize;
-    if k < table.len() {
-        table[k]
-    } else {
-        0xffff_ffff
-    }
+    table
+        .get(c as usize)
+        .copied()
+        .filter(|&code| code != INVALID_CODE)
 }

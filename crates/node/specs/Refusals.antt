@@ -1,5 +1,5 @@
 -- The number of each refusal in document 01's table, and the rule that 16 carries. Assumes nothing.
-use Rattle.std.specs.Prelude.{ℕ}
+use Rattle.std.specs.Prelude.{ℕ, Option, Some, None}
 use Rattle.node.specs.declared.Refusal.{Refusal}
 use Rattle.node.specs.declared.Refusal.TheVariants.{Uneven, Limit, NoCharacter, ValueScale, EndMarker, NoRecords, Unsorted, EmptyKey, Duplicate, BuildRoom, ElementRoom, LongSuffix, TailRoom, Truncated, LoadRoom, Unsound, BufferRoom, Outside, MatchRoom}
 
@@ -26,23 +26,6 @@ number Outside = 22
 number MatchRoom = 23
 
 -- "carries the lowest such number"; nothing else carries one
-abbrev pub carried : Refusal → ℕ
-carried (Unsound rule) = rule
-carried Uneven = 0
-carried Limit = 0
-carried NoCharacter = 0
-carried ValueScale = 0
-carried EndMarker = 0
-carried NoRecords = 0
-carried Unsorted = 0
-carried EmptyKey = 0
-carried Duplicate = 0
-carried BuildRoom = 0
-carried ElementRoom = 0
-carried LongSuffix = 0
-carried TailRoom = 0
-carried Truncated = 0
-carried LoadRoom = 0
-carried BufferRoom = 0
-carried Outside = 0
-carried MatchRoom = 0
+abbrev pub carried : Refusal → Option ℕ
+carried (Unsound rule) = Some rule
+carried r = None

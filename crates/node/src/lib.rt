@@ -19,129 +19,136 @@ pub const END_CODE: u32 = 0;
 
 pub const END_MARKER: u32 = 0xffff;
 
-// The lowest number with its top bit set: `!OFFSET_MASK`.
+/// The lowest number with its top bit set: `!OFFSET_MASK`.
 pub const TOP_BIT: u32 = 0x8000_0000;
 
-// Document 01's table of refusals, in its order.
-#[derive(Clone, Copy)]
+/// Of records in a build. The seven limits are document 01's, 'Limits and refusals'.
+pub const MAX_RECORDS: usize = 65_535;
+
+/// Of characters in a key.
+pub const MAX_KEY: usize = 1_024;
+
+/// Of characters in all keys.
+pub const MAX_KEYS: usize = 262_144;
+
+/// Of characters in a query.
+pub const MAX_QUERY: usize = 65_535;
+
+/// Of elements.
+pub const MAX_ELEMS: usize = 16_777_216;
+
+/// Of places in a table.
+pub const MAX_TABLE: usize = 1_114_112;
+
+/// Of tail bytes.
+pub const MAX_TAILS: usize = 16_777_216;
+
+/// Document 01's table of refusals, in its order.
+#[derive(Clone, Copy, Debug, PartialEq, Eq)]
 pub enum Refusal {
-    // 10: ends and values differ in number, ends fall, or the last end is not the run's length
+    /// 10: ends and values differ in number, ends fall, or the last end is not the run's length
     Uneven,
-    // 12: a limit is passed
+    /// 12: a limit is passed
     Limit,
-    // 11: not a character
+    /// 11: not a character
     NoCharacter,
-    // 1: a value above MAX_VALUE
+    /// 1: a value above MAX_VALUE
     ValueScale,
-    // 2: END_MARKER in a key or a query
+    /// 2: END_MARKER in a key or a query
     EndMarker,
-    // 3: no records
+    /// 3: no records
     NoRecords,
-    // 13: some key is greater than the next
+    /// 13: some key is greater than the next
     Unsorted,
-    // 4: the first key is empty
+    /// 4: the first key is empty
     EmptyKey,
-    // 5: two equal keys
+    /// 5: two equal keys
     Duplicate,
-    // 9: table room or work space of a build
+    /// 9: table room or work space of a build
     BuildRoom,
-    // 6: more elements than there is room for
+    /// 6: more elements than there is room for
     ElementRoom,
-    // 7: a suffix over 255 characters
+    /// 7: a suffix over 255 characters
     LongSuffix,
-    // 8: tails do not fit
+    /// 8: tails do not fit
     TailRoom,
-    // 14: bytes end before the layout does
+    /// 14: bytes end before the layout does
     Truncated,
-    // 15: room of a load
+    /// 15: room of a load
     LoadRoom,
-    // 16: a soundness rule is broken, with the lowest such rule's number
+    /// 16: a soundness rule is broken, with the lowest such rule's number
     Unsound(u32),
-    // 20: buffer below io_bytes
+    /// 20: buffer below io_bytes
     BufferRoom,
-    // 22: the walk would read outside what is lent
+    /// 22: the walk would read outside what is lent
     Outside,
-    // 23: more matches than there is room for
+    /// 23: more matches than there is room for
     MatchRoom,
 }
 
-// A refusal's number in document 01's table.
-pub fn refusal_number(r: Refusal) -> u32
-    ensures { result ≡ number r }
-{
-    match r {
-        Refusal::Uneven => 10,
-        Refusal::Limit => 12,
-        Refusal::NoCharacter => 11,
-        Refusal::ValueScale => 1,
-        Refusal::EndMarker => 2,
-        Refusal::NoRecords => 3,
-        Refusal::Unsorted => 13,
-        Refusal::EmptyKey => 4,
-        Refusal::Duplicate => 5,
-        Refusal::BuildRoom => 9,
-        Refusal::ElementRoom => 6,
-        Refusal::LongSuffix => 7,
-        Refusal::TailRoom => 8,
-        Refusal::Truncated => 14,
-        Refusal::LoadRoom => 15,
-        Refusal::Unsound(_) => 16,
-        Refusal::BufferRoom => 20,
-        Refusal::Outside => 22,
-        Refusal::MatchRoom => 23,
+impl Refusal {
+    /// The number in document 01's table.
+    pub fn number(self) -> u32
+        ensures { result ≡ number self }
+    {
+        match self {
+            Refusal::Uneven => 10,
+            Refusal::Limit => 12,
+            Refusal::NoCharacter => 11,
+            Refusal::ValueScale => 1,
+            Refusal::EndMarker => 2,
+            Refusal::NoRecords => 3,
+            Refusal::Unsorted => 13,
+            Refusal::EmptyKey => 4,
+            Refusal::Duplicate => 5,
+            Refusal::BuildRoom => 9,
+            Refusal::ElementRoom => 6,
+            Refusal::LongSuffix => 7,
+            Refusal::TailRoom => 8,
+            Refusal::Truncated => 14,
+            Refusal::LoadRoom => 15,
+            Refusal::Unsound(_) => 16,
+            Refusal::BufferRoom => 20,
+            Refusal::Outside => 22,
+            Refusal::MatchRoom => 23,
+        }
+    }
+
+    /// The rule that it carries: only 16 carries one.
+    pub fn rule(self) -> Option<u32>
+        ensures { result ≡ carried self }
+    {
+        match self {
+            Refusal::Unsound(rule) => Some(rule),
+            _ => None,
+        }
     }
 }
 
-// The rule that a refusal carries: that of 16, and 0 for every other.
-pub fn refusal_rule(r: Refusal) -> u32
-    ensures { result ≡ carried r }
-{
-    match r {
-        Refusal::Uneven => 0,
-        Refusal::Limit => 0,
-        Refusal::NoCharacter => 0,
-        Refusal::ValueScale => 0,
-        Refusal::EndMarker => 0,
-        Refusal::NoRecords => 0,
-        Refusal::Unsorted => 0,
-        Refusal::EmptyKey => 0,
-        Refusal::Duplicate => 0,
-        Refusal::BuildRoom => 0,
-        Refusal::ElementRoom => 0,
-        Refusal::LongSuffix => 0,
-        Refusal::TailRoom => 0,
-        Refusal::Truncated => 0,
-        Refusal::LoadRoom => 0,
-        Refusal::Unsound(rule) => rule,
-        Refusal::BufferRoom => 0,
-        Refusal::Outside => 0,
-        Refusal::MatchRoom => 0,
-    }
-}
-
-// A number without its top bit: `x & OFFSET_MASK`.
+/// A number without its top bit: `x & OFFSET_MASK`.
 #[tactic(auto, unfolding(crate::specs::Element::offset))]
 pub fn masked(x: u32) -> u32
     ensures { result ≡ offset x }
 {
-    x % 0x8000_0000
+    x % TOP_BIT
 }
 
-// Whether the top bit is set: `x & !OFFSET_MASK != 0`.
+/// Whether the top bit is set: `x & !OFFSET_MASK != 0`.
 #[tactic(auto, unfolding(crate::specs::Element::top))]
 pub fn has_top(x: u32) -> bool
     ensures { result ≡ top x }
 {
-    0x8000_0000 <= x
+    TOP_BIT <= x
 }
 
-// An element: its two numbers.
-#[derive(Clone, Copy)]
+/// An element: its two numbers.
+#[derive(Clone, Copy, Debug, Default, PartialEq, Eq)]
 pub struct Node {
     pub base: u32,
     pub check: u32,
 }
 
+// `get_base` and `get_check`, `is_leaf` and `has_leaf` stay pairs: each is one call under its Rust name, and a field as a parameter is no plainer.
 impl Node {
     pub fn get_base(self) -> u32
         ensures { result ≡ offset self.base }
@@ -171,10 +178,7 @@ impl Node {
     pub fn is_vacant(self) -> bool
         ensures { result ≡ vacant_pair self.base self.check }
     {
-        if self.base != OFFSET_MASK {
-            return false;
-        }
-        self.check == OFFSET_MASK
+        self.base == OFFSET_MASK && self.check == OFFSET_MASK
     }
 
     pub fn io_bytes() -> usize
@@ -184,80 +188,66 @@ impl Node {
     }
 }
 
-// Does the number of elements, of the table or of the tail bytes pass its limit?
-#[tactic(auto, unfolding(crate::specs::Limits::arrays_over))]
-pub fn arrays_over(elems: usize, table: usize, tails: usize) -> bool
-    ensures { result ≡ arrays_over elems table tails }
-{
-    if 16_777_216 < elems {
-        return true;
-    }
-    if 1_114_112 < table {
-        return true;
-    }
-    16_777_216 < tails
+/// The lengths of what a query, a writer or a count is lent: elements, table and tail bytes.
+#[derive(Clone, Copy, Debug, PartialEq, Eq)]
+pub struct Sizes {
+    pub elems: usize,
+    pub table: usize,
+    pub tails: usize,
 }
 
-// Does one of these or the query's length pass its limit?
-#[tactic(auto, unfolding(crate::specs::Limits::query_over))]
-pub fn query_over(elems: usize, table: usize, tails: usize, query: usize) -> bool
-    ensures { result ≡ query_over elems table tails query }
-{
-    if arrays_over(elems, table, tails) {
-        return true;
+impl Sizes {
+    /// Does one of them pass its limit?
+    #[tactic(auto, unfolding(crate::specs::Limits::arrays_over))]
+    pub fn arrays_over(self) -> bool
+        ensures { result ≡ arrays_over self.elems self.table self.tails }
+    {
+        MAX_ELEMS < self.elems || MAX_TABLE < self.table || MAX_TAILS < self.tails
     }
-    65_535 < query
+
+    /// Does one of them or the query's length pass its limit?
+    #[tactic(auto, unfolding(crate::specs::Limits::query_over))]
+    pub fn query_over(self, query: usize) -> bool
+        ensures { result ≡ query_over self.elems self.table self.tails query }
+    {
+        self.arrays_over() || MAX_QUERY < query
+    }
 }
 
-// Does the number of records or of all keys' characters pass its limit?
+/// Does the number of records or of all keys' characters pass its limit?
 #[tactic(auto, unfolding(crate::specs::Limits::build_over))]
 pub fn build_over(records: usize, keys: usize) -> bool
     ensures { result ≡ build_over records keys }
 {
-    if 65_535 < records {
-        return true;
-    }
-    262_144 < keys
+    MAX_RECORDS < records || MAX_KEYS < keys
 }
 
-// Does a key's length pass its limit?
+/// Does a key's length pass its limit?
 #[tactic(auto, unfolding(crate::specs::Limits::key_over))]
 pub fn key_over(key: usize) -> bool
     ensures { result ≡ key_over key }
 {
-    1_024 < key
+    MAX_KEY < key
 }
 
-// Is this number a character: up to 10FFFF, and not from D800 to DFFF?
+/// Is this number a character: up to 10FFFF, and not from D800 to DFFF? By ranges, and not by `char::from_u32`: the must-fail edit `is_character` moves one.
 #[tactic(auto, unfolding(crate::specs::Character::is_character))]
 pub fn is_character(c: u32) -> bool
     ensures { result ≡ is_character c }
 {
-    if c < 0xd800 {
-        return true;
-    }
-    if c <= 0xdfff {
-        return false;
-    }
-    c <= 0x10_ffff
+    matches!(c, 0..=0xd7ff | 0xe000..=0x10_ffff)
 }
 
-// A refusal that a number of a query meets by itself, as its number: 11, 2, or 0 for none. A number, so that a walk gets it in a register.
-#[tactic(auto, unfolding(crate::specs::Character::is_character, crate::specs::Character::character_refusal))]
-pub fn character_refusal(c: u32) -> u32
+/// The refusal that a number of a query meets by itself: 11 or 2.
+#[tactic(auto, unfolding(crate::specs::Character::character_refusal))]
+pub fn character_refusal(c: u32) -> Option<Refusal>
     ensures { result ≡ character_refusal c }
 {
-    if c < 0xd800 {
-        return 0;
+    if !is_character(c) {
+        return Some(Refusal::NoCharacter);
     }
-    if c <= 0xdfff {
-        return 11;
+    if c == END_MARKER {
+        return Some(Refusal::EndMarker);
     }
-    if c == 0xffff {
-        return 2;
-    }
-    if 0x10_ffff < c {
-        return 11;
-    }
-    0
+    None
 }

@@ -1,21 +1,12 @@
 -- The facts about packed numbers, proved once over the width: how many bytes, what they are worth, packing then unpacking and back, and the turns of the two
 -- loops. Assumes nothing.
-use mathlib.Core.Path.{◌≡◌, refl, sym, ap, ◌∙◌}
-use mathlib.Core.Bool.{true, false}
-use mathlib.Core.List.{List, [], ◌∷◌, ◌++◌, append_assoc}
-use Prim.Native.Nat.{ℕ, zero, suc, ◌+◌, ◌-◌, ◌*◌, ◌/◌, ◌%◌, ◌^◌, ◌<◌, ◌≤◌}
-use native.Mathlib.Nat.{pow-suc, mod-lt, mod-eq_of_lt, mod-one, add-zero, le_of_suc-le-suc, not-suc-le-zero}
-use native.Mathlib.Numerals.{add-one}
-use native.Mathlib.Omega.{arith}
-use lib.ListN.{length, get_or, take, drop, set, length-append, length-take, length-drop, length-set}
-use lib.Arith.{digits_lt, digits_div, digits_mod, mod-mul}
-use lib.Dec.{ltb}
-use lib.Seq.{drop-cons, set_at, length-take-le}
-use borrow.Author.Tests.{ltb-true, le-leb, lt-leb}
+use Rattle.std.proofs.Common.{◌≡◌, refl, sym, ap, ◌∙◌, List, [], ◌∷◌, ◌++◌, append_assoc, append-nil, ℕ, zero, suc, ◌+◌, ◌*◌, ◌/◌, ◌%◌, ◌^◌, ◌<◌, ◌≤◌, pow-suc, mod-lt, mod-eq_of_lt, le_of_suc-le-suc, not-suc-le-zero, add-one, arith, length, get_or, take, set, length-append, ltb, take-suc-set, take_all, length-set, ◌-◌, ltb-true, IsTrue, ◌↔◌}
+use Rattle.std.proofs.Math.Arith.{digits_lt, digits_div, digits_mod, mod-mul}
+use Rattle.std.proofs.Math.Nat.{mod-one}
+use Rattle.std.proofs.lemmas.Bool.Decides.{nat_tests}
+use Rattle.std.specs.List.{push}
 use Rattle.laws.proofs.Lists.{decide}
-use Rattle.utils.specs.Packed.{pack_size, packed, unpacked, width_ok, readable, packable, pack_answer, packed_into, unpack_answer}
-use Rattle.utils.specs.declared.Packed.TheVariants.{Next, NoRoom}
-use Rattle.utils.specs.declared.Unpacked.TheVariants.{Number, Short}
+use Rattle.utils.specs.Packed.{pack_size, packed, unpacked, readable, packable, width_ok}
 
 -- ---- how many bytes, and that each is one
 
@@ -56,6 +47,13 @@ unpacked-packed (suc w) n rest =
     let m = mod-mul n {m = 256 ^ w} {c = 256} (pow_positive w) (omega arith) in
     rw (pow-suc 256 w) (omega (arith, h, m))
 
+-- the first w bytes are enough
+pub unpacked_of_first : (t : List ℕ) (w : ℕ) → w ≤ length t → unpacked (take w t) (length (take w t)) ≡ unpacked t w
+unfolding unpacked
+unpacked_of_first t zero h = refl
+unpacked_of_first [] (suc w) h = absurd (not-suc-le-zero h)
+unpacked_of_first (x ∷ xs) (suc w) h = ap (λ (n : ℕ). x + 256 * n) (unpacked_of_first xs w (le_of_suc-le-suc h))
+
 -- a number that the width holds comes back
 pub unpacked-packed_fits : (w n : ℕ) (rest : List ℕ) → n < 256 ^ w → unpacked (packed w n ++ rest) w ≡ n
 unpacked-packed_fits w n rest h = unpacked-packed w n rest ∙ mod-eq_of_lt h
@@ -88,41 +86,33 @@ pack_size_holds n h =
     (λ d. rw (a, b, d) (record { some_width = omega arith; most = omega arith; holds = ltb-true n 16777216 d }))
     (λ d. rw (a, b, d) (record { some_width = omega arith; most = omega arith; holds = h }))))
 
--- ---- the turns of `put_bytes`: what is left of n after k bytes
+-- ---- when there is an answer
 
-unfoldable pub shifted : ℕ → ℕ → ℕ
-shifted zero n = n
-shifted (suc k) n = shifted k (n / 256)
+pub readable_when : (t : List ℕ) (w : ℕ) → IsTrue (readable t w) ↔ ((1 ≤ w) × (w ≤ 4) × (w ≤ length t))
+unfolding readable width_ok
+readable_when t w = grind (arith, nat_tests)
 
-pub shifted_none : (n : ℕ) → n ≡ shifted 0 n
-unfolding shifted
-shifted_none n = refl
+pub packable_when : (n at w : ℕ) → IsTrue (packable n at w) ↔ ((1 ≤ w) × (w ≤ 4) × (at + w ≤ n))
+unfolding packable width_ok
+packable_when n at w = grind (arith, nat_tests)
 
-pub shifted_more : (k n : ℕ) → shifted k n / 256 ≡ shifted (k + 1) n
-unfolding shifted
-shifted_more k n = rw add-one (go k n)
-  where
-    go : (k n : ℕ) → shifted k n / 256 ≡ shifted (suc k) n
-    go zero n = refl
-    go (suc k) n = go k (n / 256)
+-- ---- the turns of `put_bytes`: what is written, and what packing the rest of the number would add, are what packing the number writes
 
-packed_more : (k n : ℕ) → packed (suc k) n ≡ packed k n ++ (shifted k n % 256 ∷ [])
-unfolding packed shifted
-packed_more zero n = refl
-packed_more (suc k) n = ap (λ (l : List ℕ). n % 256 ∷ l) (packed_more k (n / 256))
-
-module _ (out₀ out : List ℕ) (at n k : ℕ) (room : at + k < length out₀) (e : out ≡ take at out₀ ++ (packed k n ++ drop (at + k) out₀)) where
-  pub put_more : set out (at + k) (shifted k n % 256) ≡ take at out₀ ++ (packed (k + 1) n ++ drop (at + (k + 1)) out₀)
-  put_more =
-      let s : at + (k + 1) ≡ suc (at + k) = omega arith in
-      let h : length (take at out₀ ++ packed k n) ≡ at + k = omega (arith, length-append (take at out₀) (packed k n), length-take-le at out₀ (omega arith), length-packed k n) in
-      rw (e, s, add-one k, packed_more k n, append_assoc (packed k n) (shifted k n % 256 ∷ []) (drop (suc (at + k)) out₀), drop-cons out₀ (at + k) 0 room)
-      (rw (← append_assoc) (set_at (take at out₀ ++ packed k n) (get_or out₀ (at + k) 0) (drop (suc (at + k)) out₀) (shifted k n % 256) (at + k) h)
-      ∙ append_assoc (take at out₀) (packed k n) (shifted k n % 256 ∷ drop (suc (at + k)) out₀))
-
-pub put_none : (out : List ℕ) (at n : ℕ) → out ≡ take at out ++ (packed 0 n ++ drop (at + 0) out)
+pub put_more : (out : List ℕ) (i x n : ℕ) → i < length out → take i out ++ packed (length out - i) x ≡ packed (length out) n
+    → take (i + 1) (set out i (x % 256)) ++ packed (length (set out i (x % 256)) - (i + 1)) (x / 256) ≡ packed (length (set out i (x % 256))) n
 unfolding packed
-put_none out at n = rw (add-zero at) (sym (lib.ListN.take-append-drop at out))
+put_more out i x n h w =
+    let s : length out - i ≡ suc (length out - suc i) = omega arith in
+    let w' : take i out ++ packed (suc (length out - suc i)) x ≡ packed (length out) n = rw s at w in
+    rw (add-one i, length-set, take-suc-set out i (x % 256) h) (append_assoc (take i out) (x % 256 ∷ []) (packed (length out - suc i) (x / 256)) ∙ w')
+
+-- no place is left
+pub put_all : (out : List ℕ) (l i x n : ℕ) → length out ≡ l → l ≤ i → take i out ++ packed (length out - i) x ≡ packed (length out) n → out ≡ packed l n
+unfolding packed
+put_all out l i x n e h w =
+    let z : length out - i ≡ 0 = omega arith in
+    let whole : take i out ++ packed (length out - i) x ≡ out = rw (z, append-nil, take_all i out (omega arith)) refl in
+    sym whole ∙ w ∙ ap (λ (k : ℕ). packed k n) e
 
 -- ---- the turns of `get_bytes`, from the highest byte down
 
@@ -133,89 +123,30 @@ small_pow (suc (suc zero)) h = omega arith
 small_pow (suc (suc (suc zero))) h = omega arith
 small_pow (suc (suc (suc (suc m)))) h = absurd (omega arith)
 
--- x is the number in the bytes from k up to w
-pub record Got (t : List ℕ) (w k x : ℕ) : Type 0 where
-  pub below : k ≤ w
-  pub small : x < 256 ^ (w - k)
-  pub is : x ≡ unpacked (drop k t) (w - k)
+-- x is the number in the bytes behind those that are left
+pub record Got (bytes left : List ℕ) (x : ℕ) : Type 0 where
+  pub passed : List ℕ
+  pub parts : bytes ≡ left ++ passed
+  pub is : x ≡ unpacked passed (length passed)
+  pub small : x < 256 ^ length passed
 
-pub got_none : (t : List ℕ) (w : ℕ) → Got t w w 0
+pub got_none : (bytes left : List ℕ) → left ≡ bytes → Got bytes left 0
 unfolding unpacked
-got_none t w =
-    let z : w - w ≡ 0 = omega arith in
-    record { below = omega arith; small = rw z (omega arith); is = rw z refl }
+got_none bytes left e = record { passed = []; parts = sym e ∙ sym (append-nil left); is = refl; small = omega arith }
 
-pub got_all : (t : List ℕ) (w k x : ℕ) → k ≡ 0 → Got t w k x → x ≡ unpacked t w
-got_all t w k x z g =
-    let m : w - 0 ≡ w = omega arith in
-    g.is ∙ rw (z, m) refl
-
-module _ (t : List ℕ) (w k x : ℕ) (g : Got t w k x) (some : 0 < k) where
+module _ (bytes left rest : List ℕ) (x b : ℕ) (g : Got bytes left x) (last : left ≡ push rest b) where
   -- one byte more fits 32 bits
-  pub got_fits : w ≤ 4 → x < 16777216
-  got_fits h = omega (arith, g.small, g.below, small_pow (w - k) (omega (arith, g.below)))
+  pub got_fits : length bytes ≤ 4 → x < 16777216
+  got_fits h =
+      let n : length bytes ≡ length rest + 1 + length g.passed = rw (g.parts, last, length-append, length-append) refl in
+      omega (arith, g.small, small_pow (length g.passed) (omega (arith, n)))
 
-  pub got_more : (b : ℕ) → b ≡ get_or t (k - 1) 0 → b < 256 → k ≤ length t → Got t w (k - 1) (x * 256 + b)
+  pub got_more : (y : ℕ) → y ≡ b → y < 256 → Got bytes rest (x * 256 + y)
   unfolding unpacked
-  got_more b e l h =
-      let s : w - (k - 1) ≡ suc (w - k) = omega (arith, g.below) in
-      let n : suc (k - 1) ≡ k = omega arith in
+  got_more y e l =
       record {
-        below = omega (arith, g.below);
-        small = rw (s, pow-suc 256 (w - k)) (digits_lt g.small l);
-        is = rw (s, drop-cons t (k - 1) 0 (omega arith), n) (omega (arith, g.is));
+        passed = y ∷ g.passed;
+        parts = g.parts ∙ rw (last, e) (append_assoc rest (b ∷ []) g.passed);
+        is = omega (arith, g.is);
+        small = rw pow-suc (digits_lt g.small l);
       }
-
--- ---- the answers by cases
-
-module _ (w : ℕ) where
-  pub width_ok-zero : w ≡ 0 → width_ok w ≡ false
-  unfolding width_ok
-  width_ok-zero h = rw h
-
-  pub width_ok-over : 4 < w → width_ok w ≡ false
-  unfolding width_ok
-  width_ok-over h = rw (le-leb 1 w (omega arith), lt-leb w 4 h)
-
-  pub width_ok-inside : (w ≡ 0 → ⊥) → w ≤ 4 → width_ok w ≡ true
-  unfolding width_ok
-  width_ok-inside n h = rw (le-leb 1 w (positive w n), le-leb w 4 h)
-    where
-      positive : (w : ℕ) → (w ≡ 0 → ⊥) → 1 ≤ w
-      positive zero n = absurd (n refl)
-      positive (suc w) n = omega arith
-
-  module _ (t : List ℕ) where
-    pub unpack_width : width_ok w ≡ false → Short ≡ unpack_answer t w
-    unfolding unpack_answer readable
-    unpack_width h = rw h
-
-    pub unpack_short : length t < w → Short ≡ unpack_answer t w
-    unfolding unpack_answer readable
-    unpack_short h = decide (width_ok w) (λ a. rw (a, lt-leb w (length t) h)) (λ a. rw a)
-
-    pub unpack_number : width_ok w ≡ true → w ≤ length t → (x : ℕ) → x ≡ unpacked t w → Number x ≡ unpack_answer t w
-    unfolding unpack_answer readable
-    unpack_number a h x e = rw (a, le-leb w (length t) h, e)
-
-  module _ (out : List ℕ) (at n : ℕ) where
-    pub pack_width : width_ok w ≡ false → packable (length out) at w ≡ false
-    unfolding packable
-    pack_width h = rw h
-
-    pub pack_short : length out < at + w → packable (length out) at w ≡ false
-    unfolding packable
-    pack_short h = decide (width_ok w) (λ a. rw (a, lt-leb (at + w) (length out) h)) (λ a. rw a)
-
-    pub pack_room : width_ok w ≡ true → at + w ≤ length out → packable (length out) at w ≡ true
-    unfolding packable
-    pack_room a h = rw (a, le-leb (at + w) (length out) h)
-
-    pub pack_refused : packable (length out) at w ≡ false → (NoRoom ≡ pack_answer (length out) at w) × (out ≡ packed_into out at n w)
-    unfolding pack_answer packed_into
-    pack_refused h = (rw h, rw h)
-
-    pub pack_done : packable (length out) at w ≡ true → (v : ℕ) → v ≡ w → (out' : List ℕ) → out' ≡ take at out ++ (packed v n ++ drop (at + v) out)
-        → (Next (at + v) ≡ pack_answer (length out) at w) × (out' ≡ packed_into out at n w)
-    unfolding pack_answer packed_into
-    pack_done h v q out' e = (rw (h, q), rw (h, e, q))

@@ -1,13 +1,9 @@
 -- Packed numbers, over the width: document 01, module 1. Assumes nothing.
-use Rattle.std.specs.Prelude.{Bool, cond, ◌&&◌, List, [], ◌∷◌, ◌++◌, ℕ, zero, suc, ◌+◌, ◌*◌, ◌/◌, ◌%◌, length, take, drop, nat_le, nat_lt}
-use Rattle.utils.specs.declared.Packed.{Packed}
-use Rattle.utils.specs.declared.Packed.TheVariants.{Next, NoRoom}
-use Rattle.utils.specs.declared.Unpacked.{Unpacked}
-use Rattle.utils.specs.declared.Unpacked.TheVariants.{Number, Short}
+use Rattle.std.specs.Prelude.{Bool, if◌then◌else◌, ◌&&◌, List, [], ◌∷◌, ◌++◌, ℕ, zero, suc, ◌+◌, ◌*◌, ◌/◌, ◌%◌, Option, Some, None, length, take, drop, nat_le, nat_lt}
 
 -- "`pack_size`: 1 below 256, 2 below 65,536, 3 below 16,777,216, else 4"
 unfoldable pub pack_size : ℕ → ℕ
-pack_size n = cond (nat_lt n 256) 1 (cond (nat_lt n 65536) 2 (cond (nat_lt n 16777216) 3 4))
+pack_size n = if nat_lt n 256 then 1 else if nat_lt n 65536 then 2 else if nat_lt n 16777216 then 3 else 4
 
 -- "little-endian low bytes": the lowest w bytes of n, lowest first
 unfoldable pub packed : ℕ → ℕ → List ℕ
@@ -32,14 +28,14 @@ readable t w = width_ok w && nat_le w (length t)
 unfoldable pub packable : ℕ → ℕ → ℕ → Bool
 packable n at w = width_ok w && nat_le (at + w) n
 
--- what `pack_u32` answers
-unfoldable pub pack_answer : ℕ → ℕ → ℕ → Packed
-pack_answer n at w = cond (packable n at w) (Next (at + w)) NoRoom
+-- what `pack_u32` answers: the place behind the number, if there is room for it
+unfoldable pub pack_answer : ℕ → ℕ → ℕ → Option ℕ
+pack_answer n at w = if packable n at w then Some (at + w) else None
 
 -- the run after it: the number's bytes from the place at on, all else as before
 unfoldable pub packed_into : List ℕ → ℕ → ℕ → ℕ → List ℕ
-packed_into out at n w = cond (packable (length out) at w) (take at out ++ (packed w n ++ drop (at + w) out)) out
+packed_into out at n w = if packable (length out) at w then take at out ++ (packed w n ++ drop (at + w) out) else out
 
--- what `unpack_u32` answers
-unfoldable pub unpack_answer : List ℕ → ℕ → Unpacked
-unpack_answer t w = cond (readable t w) (Number (unpacked t w)) Short
+-- what `unpack_u32` answers: the number, if there is one to read
+unfoldable pub unpack_answer : List ℕ → ℕ → Option ℕ
+unpack_answer t w = if readable t w then Some (unpacked t w) else None

@@ -1,174 +1,121 @@
 // src/utils.rs of the crate: packed numbers, and the common prefix of two keys.
 #![tactic(auto)]
 
-ghost use Rattle.std.specs.Prelude.{◌≡◌, ◌++◌, ◌+◌, ◌<◌, ◌≤◌, length, take, drop};
-ghost use Rattle.utils.specs.Packed.{pack_size, packed, pack_answer, packed_into, unpacked, unpack_answer};
+ghost use Rattle.std.specs.Prelude.{◌≡◌, ◌≤◌, ◌==◌, if◌then◌else◌, ℕ, length, take_while};
+ghost use Rattle.std.specs.List.{zip};
+ghost use Rattle.utils.specs.Packed.{pack_size, packed, pack_answer, packed_into, unpacked, unpack_answer, width_ok};
 ghost use Rattle.utils.specs.Common.{common, ordering};
 
-// What packing answers: the place behind the number, or that the width is not 1 to 4 or the room too short.
-#[derive(Clone, Copy)]
-pub enum Packed {
-    Next(usize),
-    NoRoom,
-}
+use std::cmp::Ordering;
 
-// What unpacking answers: the number, or that the width is not 1 to 4 or the part too short.
-#[derive(Clone, Copy)]
-pub enum Unpacked {
-    Number(u32),
-    Short,
-}
-
-#[derive(Clone, Copy)]
-pub enum Ordering {
-    Less,
-    Equal,
-    Greater,
-}
-
-// The length of the longest common prefix of two keys, and their order.
-#[derive(Clone, Copy)]
+/// The length of the longest common prefix of two keys, and their order.
+#[derive(Clone, Copy, Debug, PartialEq, Eq)]
 pub struct Common {
     pub lcp: usize,
     pub ord: Ordering,
 }
 
-// The smallest number of bytes that can encode n.
+/// The smallest number of bytes that can encode `n`.
 #[tactic(auto, unfolding(crate::specs::Packed::pack_size))]
 pub fn pack_size(n: u32) -> u8
     ensures { result ≡ pack_size n }
 {
     if n < 256 {
-        return 1;
+        1
+    } else if n < 65_536 {
+        2
+    } else if n < 16_777_216 {
+        3
+    } else {
+        4
     }
-    if n < 65_536 {
-        return 2;
-    }
-    if n < 16_777_216 {
-        return 3;
-    }
-    4
 }
 
-// Writes the lowest nbytes bytes of n into out, from the place at on.
+/// Writes the lowest `nbytes` bytes of `n` into `out`, from the place `at` on, and answers the place behind them. Where the width is not 1 to 4 or the room
+/// is too short, `out` stays as it was.
+// `at` stays beside `out`: C lends a whole run and gets the place behind the number in it.
 #[tactic(auto, unfolding(crate::specs::Packed::pack_answer, crate::specs::Packed::packed_into, crate::specs::Packed::packable, crate::specs::Packed::width_ok))]
-pub fn pack_u32(out: &mut [u8], at: usize, n: u32, nbytes: u8) -> Packed
+pub fn pack_u32(out: &mut [u8], at: usize, n: u32, nbytes: u8) -> Option<usize>
     ensures answer { result ≡ pack_answer (length out.old) at nbytes }
     ensures out_after { out.new ≡ packed_into out.old at n nbytes }
 {
-    if nbytes == 0 {
-        return Packed::NoRoom;
+    let w = width(nbytes)?;
+    if out.len() < at || out.len() - at < w {
+        return None;
     }
-    if 4 < nbytes {
-        return Packed::NoRoom;
-    }
-    let w = wide(nbytes);
-    if out.len() < at {
-        return Packed::NoRoom;
-    }
-    if out.len() - at < w {
-        return Packed::NoRoom;
-    }
-    put_bytes(out, at, n, w);
-    Packed::Next(at + w)
+    let next = at + w;
+    put_bytes(&mut out[at..next], n);
+    Some(next)
 }
 
-// The number in the first nbytes bytes of slice.
-#[tactic(auto, unfolding(crate::specs::Packed::unpack_answer, crate::specs::Packed::readable, crate::specs::Packed::width_ok))]
-pub fn unpack_u32(slice: &[u8], nbytes: u8) -> Unpacked
+/// The number in the first `nbytes` bytes of `slice`, unless the width is not 1 to 4 or the slice is too short.
+// `nbytes` stays beside `slice`: C, and the Rust, hand on what follows the number too.
+#[tactic(auto, using(crate::proofs::Bytes::unpacked_of_first), unfolding(crate::specs::Packed::unpack_answer, crate::specs::Packed::readable, crate::specs::Packed::width_ok))]
+pub fn unpack_u32(slice: &[u8], nbytes: u8) -> Option<u32>
     ensures { result ≡ unpack_answer slice.now nbytes }
 {
-    if nbytes == 0 {
-        return Unpacked::Short;
-    }
-    if 4 < nbytes {
-        return Unpacked::Short;
-    }
-    let w = wide(nbytes);
+    let w = width(nbytes)?;
     if slice.len() < w {
-        return Unpacked::Short;
+        return None;
     }
-    Unpacked::Number(get_bytes(slice, w))
+    Some(get_bytes(&slice[..w]))
 }
 
-// The length of the longest common prefix of a and b, and their order.
-#[tactic(auto, using(crate::proofs::Prefix::b_ends, crate::proofs::Prefix::a_ends, crate::proofs::Prefix::both_end, crate::proofs::Prefix::lower, crate::proofs::Prefix::higher))]
+/// The length of the longest common prefix of `a` and `b`, and their order.
+#[tactic(auto, using(crate::proofs::Prefix::shared_is_common))]
 pub fn longest_common_prefix(a: &[u32], b: &[u32]) -> Common
     ensures lcp { result.lcp ≡ common a.now b.now }
     ensures ord { result.ord ≡ ordering a.now b.now }
 {
-    let mut i = 0;
-    while i < a.len() {
-        if b.len() <= i {
-            return Common {
-                lcp: i,
-                ord: Ordering::Greater,
-            };
-        }
-        let x = a[i];
-        let y = b[i];
-        if x < y {
-            return Common {
-                lcp: i,
-                ord: Ordering::Less,
-            };
-        }
-        if y < x {
-            return Common {
-                lcp: i,
-                ord: Ordering::Greater,
-            };
-        }
-        i += 1;
-    }
-    if i < b.len() {
-        return Common {
-            lcp: i,
-            ord: Ordering::Less,
-        };
-    }
+    let lcp = shared(a, b);
     Common {
-        lcp: i,
-        ord: Ordering::Equal,
+        lcp,
+        ord: a.get(lcp).cmp(&b.get(lcp)),
     }
 }
 
-fn wide(x: u8) -> usize
-    ensures { (result ≡ x) × (result < 256) }
+// The width as a number of bytes, if a number of 32 bits can have it. An arm for each, so that the loops over that many bytes unroll.
+#[tactic(auto, unfolding(crate::specs::Packed::width_ok))]
+fn width(nbytes: u8) -> Option<usize>
+    ensures { result ≡ if width_ok nbytes then Some nbytes else None }
 {
-    x as usize
+    match nbytes {
+        1 => Some(1),
+        2 => Some(2),
+        3 => Some(3),
+        4 => Some(4),
+        _ => None,
+    }
 }
 
-fn byte(x: u8) -> u32
-    ensures { (result ≡ x) × (result < 256) }
+// How many characters a and b share at the front.
+fn shared(a: &[u32], b: &[u32]) -> usize
+    ensures { result ≡ length (take_while (λ (p : ℕ × ℕ). p.0 == p.1) (zip a.now b.now)) }
 {
-    x as u32
+    a.iter().zip(b).take_while(|(x, y)| x == y).count()
 }
 
-// The lowest w bytes of n, lowest first, from the place at on.
-fn put_bytes(out: &mut [u8], at: usize, n: u32, w: usize)
-    requires { (w ≤ 4) × (at + w ≤ length out.old) }
-    ensures { out.new ≡ take at out.old ++ (packed w n ++ drop (at + w) out.old) }
+// The lowest bytes of n, lowest first, as many as out has. By division, and not by `to_le_bytes`: the must-fail edit `byte_order` takes another base.
+#[tactic(auto, using(crate::proofs::Bytes::put_more, crate::proofs::Bytes::put_all))]
+fn put_bytes(out: &mut [u8], n: u32)
+    ensures { out.new ≡ packed (length out.old) n }
 {
     let mut x = n;
-    let mut k = 0;
-    while k < w {
-        out[at + k] = (x % 256) as u8;
+    for b in out.iter_mut() {
+        *b = (x % 256) as u8;
         x /= 256;
-        k += 1;
     }
 }
 
-// The number in the first w bytes, from its highest byte down.
-fn get_bytes(slice: &[u8], w: usize) -> u32
-    requires { (w ≤ 4) × (w ≤ length slice.now) }
-    ensures { result ≡ unpacked slice.now w }
+// The number in the bytes, from its highest byte down. Not by `from_le_bytes`: the must-fail edit `get_bytes` takes another base.
+#[tactic(auto, using(crate::proofs::Bytes::got_none, crate::proofs::Bytes::got_more))]
+fn get_bytes(bytes: &[u8]) -> u32
+    requires { length bytes.now ≤ 4 }
+    ensures { result ≡ unpacked bytes.now (length bytes.now) }
 {
-    let mut x: u32 = 0;
-    let mut k = w;
-    while 0 < k {
-        k -= 1;
-        x = x * 256 + byte(slice[k]);
+    let mut x = 0;
+    for b in bytes.iter().rev() {
+        x = x * 256 + u32::from(*b);
     }
     x
 }

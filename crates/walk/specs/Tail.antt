@@ -1,25 +1,22 @@
 -- The minimal-prefix walk: it stops at a leaf, and the rest of the query is held against the leaf's tail, read by read as src/mptrie.rs and its `TailIter` do
 -- it. cw and vw are the widths of a code and of a value. Assumes nothing.
-use Rattle.std.specs.Prelude.{cond, List, [], ◌∷◌, ℕ, zero, suc, drop, nat_lt, ◌==◌}
-use Rattle.std.proofs.Math.Option.{Option, none, some}
+use Rattle.std.specs.Prelude.{if◌then◌else◌, List, [], ◌∷◌, ℕ, zero, suc, Option, Some, None, drop, nat_lt, ◌==◌}
 use Rattle.node.specs.Element.{base_of, leaf}
 use Rattle.utils.specs.Packed.{unpacked, readable}
-use Rattle.walk.specs.Walk.{Walked, At, Miss, Outside, Answer, Value, None, Beyond, step, settle_end, Matches, Listed, Left, report, next_match}
+use Rattle.walk.specs.Walk.{Walked, At, Miss, Outside, Answer, Value, Nothing, Beyond, step, settle_end, Matches, Listed, Left, report, next_match}
 
 abbrev pub known : Option ℕ → (ℕ → Answer) → Answer
-known none k = None
-known (some x) k = k x
+known None k = Nothing
+known (Some x) k = k x
 
 -- the rest of a query against the n codes at the start of t. A code is read before the query's next character; the value behind the codes only if the query
 -- has ended.
 unfoldable pub tail_match : (ℕ → Option ℕ) → ℕ → ℕ → List ℕ → ℕ → List ℕ → Answer
-tail_match f cw vw t zero [] = cond (readable t vw) (Value (unpacked t vw)) Beyond
-tail_match f cw vw t zero (c ∷ q) = None
-tail_match f cw vw t (suc n) [] = cond (readable t cw) None Beyond
+tail_match f cw vw t zero [] = if readable t vw then Value (unpacked t vw) else Beyond
+tail_match f cw vw t zero (c ∷ q) = Nothing
+tail_match f cw vw t (suc n) [] = if readable t cw then Nothing else Beyond
 tail_match f cw vw t (suc n) (c ∷ q) =
-    cond (readable t cw)
-    (known (f c) (λ x. cond (x == unpacked t cw) (tail_match f cw vw (drop cw t) n q) None))
-    Beyond
+    if readable t cw then known (f c) (λ x. if x == unpacked t cw then tail_match f cw vw (drop cw t) n q else Nothing) else Beyond
 
 -- "a tail is handed on as the part of the tail bytes that starts at its position": its length byte comes first
 unfoldable pub tail_at : (ℕ → Option ℕ) → ℕ → ℕ → List ℕ → List ℕ → Answer
@@ -44,16 +41,14 @@ next_stop Outside k = Out
 
 -- the loop of `MpTrie::exact_match`: element p is read before the query's next character
 unfoldable pub stroll : (ℕ → Option ℕ) → List ℕ → List ℕ → ℕ → ℕ → List ℕ → Stopped
-stroll f base check N p [] = cond (nat_lt p N) (cond (leaf base p) (InTail p []) (Ended p)) Out
+stroll f base check N p [] = if nat_lt p N then (if leaf base p then InTail p [] else Ended p) else Out
 stroll f base check N p (c ∷ q) =
-    cond (nat_lt p N)
-    (cond (leaf base p) (InTail p (c ∷ q)) (next_stop (step f base check N p c) (λ d. stroll f base check N d q)))
-    Out
+    if nat_lt p N then (if leaf base p then InTail p (c ∷ q) else next_stop (step f base check N p c) (λ d. stroll f base check N d q)) else Out
 
 abbrev pub finish_stop : Stopped → (ℕ → List ℕ → Answer) → (ℕ → Answer) → Answer
 finish_stop (InTail e q) k j = k e q
 finish_stop (Ended e) k j = j e
-finish_stop Lost k j = None
+finish_stop Lost k j = Nothing
 finish_stop Out k j = Beyond
 
 -- `MpTrie::exact_match`
@@ -62,17 +57,15 @@ exact_mp f base check tails cw vw N q =
     finish_stop (stroll f base check N 0 q) (settle_tail f base tails cw vw) (settle_end base check N)
 
 abbrev pub known_match : Option ℕ → (ℕ → Matches) → Matches
-known_match none k = Listed []
-known_match (some x) k = k x
+known_match None k = Listed []
+known_match (Some x) k = k x
 
 -- the n codes at the start of t against what follows in the query: one match, at the length l, or none. The value is read whenever the codes are passed.
 unfoldable pub tail_scan : (ℕ → Option ℕ) → ℕ → ℕ → List ℕ → ℕ → ℕ → List ℕ → Matches
-tail_scan f cw vw t zero l q = cond (readable t vw) (Listed ((unpacked t vw, l) ∷ [])) Left
-tail_scan f cw vw t (suc n) l [] = cond (readable t cw) (Listed []) Left
+tail_scan f cw vw t zero l q = if readable t vw then Listed ((unpacked t vw, l) ∷ []) else Left
+tail_scan f cw vw t (suc n) l [] = if readable t cw then Listed [] else Left
 tail_scan f cw vw t (suc n) l (c ∷ q) =
-    cond (readable t cw)
-    (known_match (f c) (λ x. cond (x == unpacked t cw) (tail_scan f cw vw (drop cw t) n (suc l) q) (Listed [])))
-    Left
+    if readable t cw then known_match (f c) (λ x. if x == unpacked t cw then tail_scan f cw vw (drop cw t) n (suc l) q else Listed []) else Left
 
 unfoldable pub tail_scan_at : (ℕ → Option ℕ) → ℕ → ℕ → List ℕ → ℕ → List ℕ → Matches
 tail_scan_at f cw vw [] l q = Left
@@ -87,9 +80,8 @@ unfoldable pub scan_mp : (ℕ → Option ℕ) → List ℕ → List ℕ → List
 scan_mp f base check tails cw vw N p n [] = Listed []
 scan_mp f base check tails cw vw N p n (c ∷ q) =
     next_match (step f base check N p c) (λ d.
-    cond (leaf base d)
-    (leaf_scan f base tails cw vw d (suc n) q)
-    (report (settle_end base check N d) (suc n) (scan_mp f base check tails cw vw N d (suc n) q)))
+    if leaf base d then leaf_scan f base tails cw vw d (suc n) q
+    else report (settle_end base check N d) (suc n) (scan_mp f base check tails cw vw N d (suc n) q))
 
 -- `MpTrie::common_prefix_search`
 unfoldable pub prefixes_mp : (ℕ → Option ℕ) → List ℕ → List ℕ → List ℕ → ℕ → ℕ → ℕ → List ℕ → Matches

@@ -1,7 +1,6 @@
 -- The walk of a query down the elements, read by read as src/trie.rs and src/mptrie.rs do it, over how a code is found (f). N is how many elements are lent:
 -- the length of the shorter of base and check. Assumes nothing.
-use Rattle.std.specs.Prelude.{cond, List, [], ◌∷◌, ℕ, suc, min, length, nat_lt, ◌==◌}
-use Rattle.std.proofs.Math.Option.{Option, none, some}
+use Rattle.std.specs.Prelude.{if◌then◌else◌, List, [], ◌∷◌, ℕ, suc, min, Option, Some, None, length, nat_lt, ◌==◌}
 use Rattle.std.specs.Int.Bits.{bit_xor}
 use Rattle.node.specs.Constants.{end_code}
 use Rattle.node.specs.Element.{base_of, parent, leaf, marked}
@@ -19,14 +18,14 @@ pub data Walked : Type 0 where
 -- what a walk finds in the end: a value, none, or that a read is outside what is lent
 pub data Answer : Type 0 where
   Value : ℕ → Answer
-  None : Answer
+  Nothing : Answer
   Beyond : Answer
 
 -- `get_child_idx`: element p is read first, and a leaf has no child; then the check of the element that its base and the code c name
 unfoldable pub child : List ℕ → List ℕ → ℕ → ℕ → ℕ → Walked
 child base check N p c =
     let d : ℕ = bit_xor (base_of base p) c in
-    cond (nat_lt p N) (cond (leaf base p) Miss (cond (nat_lt d N) (cond (parent check d == p) (At d) Miss) Outside)) Outside
+    if nat_lt p N then (if leaf base p then Miss else if nat_lt d N then (if parent check d == p then At d else Miss) else Outside) else Outside
 
 -- go on from an element
 abbrev pub next : Walked → (ℕ → Walked) → Walked
@@ -36,8 +35,8 @@ next Outside k = Outside
 
 -- go on with a code: a character without one is a miss, before any element is read
 abbrev pub coded : Option ℕ → (ℕ → Walked) → Walked
-coded none k = Miss
-coded (some c) k = k c
+coded None k = Miss
+coded (Some c) k = k c
 
 -- the step from p by the character c
 abbrev pub step : (ℕ → Option ℕ) → List ℕ → List ℕ → ℕ → ℕ → ℕ → Walked
@@ -52,15 +51,15 @@ walk f base check N p (c ∷ q) = next (step f base check N p c) (λ d. walk f b
 unfoldable pub settle_end : List ℕ → List ℕ → ℕ → ℕ → Answer
 settle_end base check N e =
     let l : ℕ = bit_xor (base_of base e) end_code in
-    cond (marked check e) (cond (nat_lt l N) (Value (base_of base l)) Beyond) None
+    if marked check e then (if nat_lt l N then Value (base_of base l) else Beyond) else Nothing
 
 -- the end of a walk of the plain form: a leaf's value, that of the leaf by code 0, or none
 unfoldable pub settle : List ℕ → List ℕ → ℕ → ℕ → Answer
-settle base check N e = cond (nat_lt e N) (cond (leaf base e) (Value (base_of base e)) (settle_end base check N e)) Beyond
+settle base check N e = if nat_lt e N then (if leaf base e then Value (base_of base e) else settle_end base check N e) else Beyond
 
 abbrev pub finish : Walked → (ℕ → Answer) → Answer
 finish (At e) k = k e
-finish Miss k = None
+finish Miss k = Nothing
 finish Outside k = Beyond
 
 -- `Trie::exact_match`
@@ -80,7 +79,7 @@ before m Left = Left
 -- what an element adds to the list: its value at length n, nothing, or a read outside
 abbrev pub report : Answer → ℕ → Matches → Matches
 report (Value v) n r = before (v, n) r
-report None n r = r
+report Nothing n r = r
 report Beyond n r = Left
 
 abbrev pub next_match : Walked → (ℕ → Matches) → Matches

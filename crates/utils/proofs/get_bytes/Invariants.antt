@@ -1,9 +1,6 @@
 use Rattle.utils.proofs.Bytes.{Got}
 use Rattle.utils.proofs.get_bytes.Given as goal
 
--- x is the number in the bytes from k on
-abbrev pub invariant-loop-k : goal.invariant-loop-k
-invariant-loop-k l = Got l.slice l.w l.k l.x
-
-abbrev pub decreases-loop-k : goal.decreases-loop-k
-decreases-loop-k l = l.k
+-- x is the number in the bytes that are passed, the last ones
+abbrev pub invariant-loop-b : goal.invariant-loop-b
+invariant-loop-b l = Got l.bytes l.b-iterator.iter.rest.now l.x

@@ -1,6 +1,9 @@
-use Rattle.std.proofs.Common.{arith}
-use Rattle.utils.proofs.Prefix.{one_more}
+use Rattle.utils.proofs.Prefix.{order_behind}
 use Rattle.utils.proofs.longest_common_prefix.Goals as goal
 
-pub loop-i-preserved : goal.loop-i-preserved
-loop-i-preserved c = one_more _ _ _ c.loop-i.invariant c.loop-i-test.true c.if-b-i.false (omega arith) (omega arith)
+-- the check leaves the order
+pub returns-clause-ord : goal.returns-clause-ord
+returns-clause-ord c =
+    let at_a = c.get.ensures.lookup in
+    let at_b = c.get-2.ensures.lookup in
+    order_behind c.args.a.now c.args.b.now c.shared-lcp.result _ _ _ c.cmp.ensures at_a.0 at_a.1 at_b.0 at_b.1 c.shared-lcp.ensures
