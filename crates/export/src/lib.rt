@@ -68,6 +68,7 @@ impl From<Option<u32>> for GroatAnswer {
     }
 }
 
+// As the one above, for the other C struct: one for both would need a type of both, which the C interface has not.
 impl From<Option<usize>> for GroatPlace {
     ghost from_gives = { λ found place. place ≡ placed found };
 
@@ -75,7 +76,7 @@ impl From<Option<usize>> for GroatPlace {
         match found {
             Some(next) => GroatPlace {
                 status: 0,
-                next: next as u64,
+                next: next as u64, // no `From` goes from `usize` to 64 bits
             },
             None => GroatPlace {
                 status: NONE,
@@ -89,11 +90,13 @@ impl From<Common> for GroatCommon {
     ghost from_gives = { λ found parts. parts ≡ common_parts found.lcp found.ord };
 
     fn from(found: Common) -> GroatCommon {
-        let lcp = found.lcp as u64;
-        match found.ord {
-            Ordering::Less => GroatCommon { lcp, ord: 0 },
-            Ordering::Equal => GroatCommon { lcp, ord: 1 },
-            Ordering::Greater => GroatCommon { lcp, ord: 2 },
+        GroatCommon {
+            lcp: found.lcp as u64, // no `From` goes from `usize` to 64 bits
+            ord: match found.ord {
+                Ordering::Less => 0,
+                Ordering::Equal => 1,
+                Ordering::Greater => 2,
+            },
         }
     }
 }
@@ -121,6 +124,7 @@ pub extern "C" fn groat_pack_size(n: u32) -> u8
 }
 
 /// Packs the lowest nbytes bytes of n into out from the place at on.
+// `at` and `nbytes` beside the run: the C interface.
 #[unsafe(no_mangle)]
 pub extern "C" fn groat_pack_u32(out: &mut [u8], at: usize, n: u32, nbytes: u8) -> GroatPlace
     ensures answer { result ≡ placed (pack_answer (length out.old) at nbytes) }
@@ -130,6 +134,7 @@ pub extern "C" fn groat_pack_u32(out: &mut [u8], at: usize, n: u32, nbytes: u8) 
 }
 
 /// The number in the first nbytes bytes of slice.
+// `nbytes` beside the run: the C interface.
 #[unsafe(no_mangle)]
 pub extern "C" fn groat_unpack_u32(slice: &[u8], nbytes: u8) -> GroatAnswer
     ensures { result ≡ unpacked_as (unpack_answer slice.now nbytes) }
@@ -153,7 +158,7 @@ pub extern "C" fn groat_node(base: u32, check: u32) -> GroatNode
     Node { base, check }.into()
 }
 
-//// 1 if c is a character, else 0: a flag as a number, for the C interface.
+/// 1 if c is a character, else 0: a flag as a number, for the C interface.
 #[unsafe(no_mangle)]
 pub extern "C" fn groat_is_character(c: u32) -> u32
     ensures { result ≡ flag (is_character c) }
@@ -161,7 +166,7 @@ pub extern "C" fn groat_is_character(c: u32) -> u32
     u32::from(node::is_character(c))
 }
 
-//// The code of a character in a table; all ones, for the C interface, where it has none.
+/// The code of a character in a table; all ones, for the C interface, where it has none.
 #[tactic(auto, using(mapper::proofs::Find::unwrap_find))]
 #[unsafe(no_mangle)]
 pub extern "C" fn groat_code_of(table: &[u32], c: u32) -> u32

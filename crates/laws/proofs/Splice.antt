@@ -1,10 +1,6 @@
 -- Parts of a run that were lent and are back: `&s[a..]` is what follows the first a places, and what a callee left of `&mut s[a..]` is said of the whole run.
 -- One law for every section and every reader. Assumes nothing.
-use Rattle.std.proofs.Common.{arith, ℕ, ◌+◌, ◌-◌, ◌≡◌, List, [], ◌++◌, append_assoc, append-nil, length, take, drop, length-append, length-drop, drop_of_length-le, take_at, drop_at, take_all}
-
--- the part `&s[n..]` reaches the borrow checker as `take (length s - n) (drop n s)`: it is `drop n s`
-pub rest_is : (s : List ℕ) (n : ℕ) → take (length s - n) (drop n s) ≡ drop n s
-rest_is s n = take_all (length s - n) (drop n s) (simp length-drop (omega arith))
+use Rattle.std.proofs.Common.{arith, ℕ, ◌+◌, ◌-◌, ◌≡◌, List, [], ◌++◌, append_assoc, append-nil, length, take, drop, length-append, drop_of_length-le, take_at, drop_at, take_all}
 
 module _ (pre rest : List ℕ) (a : ℕ) (at : length pre ≡ a) where
   -- the part is the rest

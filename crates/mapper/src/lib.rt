@@ -12,7 +12,7 @@ pub fn code_of(table: &[u32], c: u32) -> Option<u32>
     ensures { result ≡ find table.now c }
 {
     table
-        .get(c as usize)
+        .get(c as usize) // no `From` goes from 32 bits to `usize`
         .copied()
         .filter(|&code| code != INVALID_CODE)
 }

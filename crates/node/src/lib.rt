@@ -22,25 +22,25 @@ pub const END_MARKER: u32 = 0xffff;
 /// The lowest number with its top bit set: `!OFFSET_MASK`.
 pub const TOP_BIT: u32 = 0x8000_0000;
 
-/// Of records in a build. The seven limits are document 01's, 'Limits and refusals'.
+/// The most records of a build. The seven limits are document 01's, 'Limits and refusals'.
 pub const MAX_RECORDS: usize = 65_535;
 
-/// Of characters in a key.
+/// The most characters of a key.
 pub const MAX_KEY: usize = 1_024;
 
-/// Of characters in all keys.
+/// The most characters of all keys.
 pub const MAX_KEYS: usize = 262_144;
 
-/// Of characters in a query.
+/// The most characters of a query.
 pub const MAX_QUERY: usize = 65_535;
 
-/// Of elements.
+/// The most elements.
 pub const MAX_ELEMS: usize = 16_777_216;
 
-/// Of places in a table.
+/// The most places of a table.
 pub const MAX_TABLE: usize = 1_114_112;
 
-/// Of tail bytes.
+/// The most tail bytes.
 pub const MAX_TAILS: usize = 16_777_216;
 
 /// Document 01's table of refusals, in its order.
@@ -88,6 +88,7 @@ pub enum Refusal {
 
 impl Refusal {
     /// The number in document 01's table.
+    // A method, and no `From`, since the number leaves out the rule.
     pub fn number(self) -> u32
         ensures { result ≡ number self }
     {
@@ -230,12 +231,12 @@ pub fn key_over(key: usize) -> bool
     MAX_KEY < key
 }
 
-/// Is this number a character: up to 10FFFF, and not from D800 to DFFF? By ranges, and not by `char::from_u32`: the must-fail edit `is_character` moves one.
+/// Is this number a character: up to 10FFFF, and not from D800 to DFFF?
 #[tactic(auto, unfolding(crate::specs::Character::is_character))]
 pub fn is_character(c: u32) -> bool
     ensures { result ≡ is_character c }
 {
-    matches!(c, 0..=0xd7ff | 0xe000..=0x10_ffff)
+    char::from_u32(c).is_some()
 }
 
 /// The refusal that a number of a query meets by itself: 11 or 2.

@@ -33,7 +33,7 @@ pub fn pack_size(n: u32) -> u8
 
 /// Writes the lowest `nbytes` bytes of `n` into `out`, from the place `at` on, and answers the place behind them. Where the width is not 1 to 4 or the room
 /// is too short, `out` stays as it was.
-// `at` stays beside `out`: C lends a whole run and gets the place behind the number in it.
+// `at` stays beside `out`: the clauses `answer` and `out_after` are of the whole run.
 #[tactic(auto, unfolding(crate::specs::Packed::pack_answer, crate::specs::Packed::packed_into, crate::specs::Packed::packable, crate::specs::Packed::width_ok))]
 pub fn pack_u32(out: &mut [u8], at: usize, n: u32, nbytes: u8) -> Option<usize>
     ensures answer { result ≡ pack_answer (length out.old) at nbytes }
@@ -49,7 +49,7 @@ pub fn pack_u32(out: &mut [u8], at: usize, n: u32, nbytes: u8) -> Option<usize>
 }
 
 /// The number in the first `nbytes` bytes of `slice`, unless the width is not 1 to 4 or the slice is too short.
-// `nbytes` stays beside `slice`: C, and the Rust, hand on what follows the number too.
+// `nbytes` stays beside `slice`: the clause is also of a slice that is too short. A test, and no `slice.get(..w)?`, which is slower.
 #[tactic(auto, using(crate::proofs::Bytes::unpacked_of_first), unfolding(crate::specs::Packed::unpack_answer, crate::specs::Packed::readable, crate::specs::Packed::width_ok))]
 pub fn unpack_u32(slice: &[u8], nbytes: u8) -> Option<u32>
     ensures { result ≡ unpack_answer slice.now nbytes }
@@ -67,10 +67,9 @@ pub fn longest_common_prefix(a: &[u32], b: &[u32]) -> Common
     ensures lcp { result.lcp ≡ common a.now b.now }
     ensures ord { result.ord ≡ ordering a.now b.now }
 {
-    let lcp = shared(a, b);
     Common {
-        lcp,
-        ord: a.get(lcp).cmp(&b.get(lcp)),
+        lcp: shared(a, b),
+        ord: a.cmp(b),
     }
 }
 
@@ -102,7 +101,7 @@ fn put_bytes(out: &mut [u8], n: u32)
 {
     let mut x = n;
     for b in out.iter_mut() {
-        *b = (x % 256) as u8;
+        *b = (x % 256) as u8; // no `From` goes from 32 bits to 8
         x /= 256;
     }
 }

@@ -1,98 +1,71 @@
 -- The walk of a query down the elements, read by read as src/trie.rs and src/mptrie.rs do it, over how a code is found (f). N is how many elements are lent:
 -- the length of the shorter of base and check. Assumes nothing.
-use Rattle.std.specs.Prelude.{if◌then◌else◌, List, [], ◌∷◌, ℕ, suc, min, Option, Some, None, length, nat_lt, ◌==◌}
+use Rattle.std.specs.Prelude.{if◌then◌else◌, List, [], ◌∷◌, ℕ, suc, min, Option, Some, None, Result, Ok, Err, length, nat_lt, ◌==◌}
 use Rattle.std.specs.Int.Bits.{bit_xor}
 use Rattle.node.specs.Constants.{end_code}
 use Rattle.node.specs.Element.{base_of, parent, leaf, marked}
+use Rattle.node.specs.declared.Refusal.{Refusal}
+use Rattle.node.specs.declared.Refusal.TheVariants.{Outside}
 
 -- "to a query or writer N is the length of the shorter run"
 abbrev pub elems : List ℕ → List ℕ → ℕ
 elems base check = min (length base) (length check)
 
--- where a step or a walk leads: to an element, nowhere, or outside what is lent
-pub data Walked : Type 0 where
-  At : ℕ → Walked
-  Miss : Walked
-  Outside : Walked
-
--- what a walk finds in the end: a value, none, or that a read is outside what is lent
-pub data Answer : Type 0 where
-  Value : ℕ → Answer
-  Nothing : Answer
-  Beyond : Answer
+-- What a step, a walk or a read comes to: `Ok (Some x)`, x is there; `Ok None`, nothing is; `Err Outside`, it would read outside what is lent.
+-- Go on from what is there. Where nothing is, the answer is `none`.
+abbrev pub go_on : {A B : Type 0} → B → Result (Option A) Refusal → (A → Result B Refusal) → Result B Refusal
+go_on none (Ok (Some a)) k = k a
+go_on none (Ok None) k = Ok none
+go_on none (Err r) k = Err r
 
 -- `get_child_idx`: element p is read first, and a leaf has no child; then the check of the element that its base and the code c name
-unfoldable pub child : List ℕ → List ℕ → ℕ → ℕ → ℕ → Walked
+unfoldable pub child : List ℕ → List ℕ → ℕ → ℕ → ℕ → Result (Option ℕ) Refusal
 child base check N p c =
     let d : ℕ = bit_xor (base_of base p) c in
-    if nat_lt p N then (if leaf base p then Miss else if nat_lt d N then (if parent check d == p then At d else Miss) else Outside) else Outside
+    if nat_lt p N then (if leaf base p then Ok None else if nat_lt d N then (if parent check d == p then Ok (Some d) else Ok None) else Err Outside) else Err Outside
 
--- go on from an element
-abbrev pub next : Walked → (ℕ → Walked) → Walked
-next (At e) k = k e
-next Miss k = Miss
-next Outside k = Outside
+-- the step from p by the character c: a character without a code is a miss, before any element is read
+abbrev pub step : (ℕ → Option ℕ) → List ℕ → List ℕ → ℕ → ℕ → ℕ → Result (Option ℕ) Refusal
+step f base check N p c = go_on None (Ok (f c)) (child base check N p)
 
--- go on with a code: a character without one is a miss, before any element is read
-abbrev pub coded : Option ℕ → (ℕ → Walked) → Walked
-coded None k = Miss
-coded (Some c) k = k c
-
--- the step from p by the character c
-abbrev pub step : (ℕ → Option ℕ) → List ℕ → List ℕ → ℕ → ℕ → ℕ → Walked
-step f base check N p c = coded (f c) (child base check N p)
-
--- the walk of the plain form from p by the characters of a query
-unfoldable pub walk : (ℕ → Option ℕ) → List ℕ → List ℕ → ℕ → ℕ → List ℕ → Walked
-walk f base check N p [] = At p
-walk f base check N p (c ∷ q) = next (step f base check N p c) (λ d. walk f base check N d q)
+-- the walk of the plain form from p by the characters of a query: the element where it ends
+unfoldable pub walk : (ℕ → Option ℕ) → List ℕ → List ℕ → ℕ → ℕ → List ℕ → Result (Option ℕ) Refusal
+walk f base check N p [] = Ok (Some p)
+walk f base check N p (c ∷ q) = go_on None (step f base check N p c) (λ d. walk f base check N d q)
 
 -- `get_value` of the leaf by code 0 of element e, where e's check says that there is one
-unfoldable pub settle_end : List ℕ → List ℕ → ℕ → ℕ → Answer
+unfoldable pub settle_end : List ℕ → List ℕ → ℕ → ℕ → Result (Option ℕ) Refusal
 settle_end base check N e =
     let l : ℕ = bit_xor (base_of base e) end_code in
-    if marked check e then (if nat_lt l N then Value (base_of base l) else Beyond) else Nothing
+    if marked check e then (if nat_lt l N then Ok (Some (base_of base l)) else Err Outside) else Ok None
 
 -- the end of a walk of the plain form: a leaf's value, that of the leaf by code 0, or none
-unfoldable pub settle : List ℕ → List ℕ → ℕ → ℕ → Answer
-settle base check N e = if nat_lt e N then (if leaf base e then Value (base_of base e) else settle_end base check N e) else Beyond
-
-abbrev pub finish : Walked → (ℕ → Answer) → Answer
-finish (At e) k = k e
-finish Miss k = Nothing
-finish Outside k = Beyond
+unfoldable pub settle : List ℕ → List ℕ → ℕ → ℕ → Result (Option ℕ) Refusal
+settle base check N e = if nat_lt e N then (if leaf base e then Ok (Some (base_of base e)) else settle_end base check N e) else Err Outside
 
 -- `Trie::exact_match`
-unfoldable pub exact : (ℕ → Option ℕ) → List ℕ → List ℕ → ℕ → List ℕ → Answer
-exact f base check N q = finish (walk f base check N 0 q) (settle base check N)
+unfoldable pub exact : (ℕ → Option ℕ) → List ℕ → List ℕ → ℕ → List ℕ → Result (Option ℕ) Refusal
+exact f base check N q = go_on None (walk f base check N 0 q) (settle base check N)
 
--- the matches of a common-prefix search, as (value, length), up to the iterator's first `None`
-pub data Matches : Type 0 where
-  Listed : List (ℕ × ℕ) → Matches
-  Left : Matches
+-- ---- the matches of a common-prefix search, as (value, length), up to the iterator's first `None`
 
 -- one match before the others
-abbrev pub before : ℕ × ℕ → Matches → Matches
-before m (Listed l) = Listed (m ∷ l)
-before m Left = Left
+abbrev pub before : ℕ × ℕ → Result (List (ℕ × ℕ)) Refusal → Result (List (ℕ × ℕ)) Refusal
+before m (Ok l) = Ok (m ∷ l)
+before m (Err r) = Err r
 
 -- what an element adds to the list: its value at length n, nothing, or a read outside
-abbrev pub report : Answer → ℕ → Matches → Matches
-report (Value v) n r = before (v, n) r
-report Nothing n r = r
-report Beyond n r = Left
-
-abbrev pub next_match : Walked → (ℕ → Matches) → Matches
-next_match (At e) k = k e
-next_match Miss k = Listed []
-next_match Outside k = Left
+abbrev pub report : Result (Option ℕ) Refusal → ℕ → Result (List (ℕ × ℕ)) Refusal → Result (List (ℕ × ℕ)) Refusal
+report (Ok (Some v)) n l = before (v, n) l
+report (Ok None) n l = l
+report (Err r) n l = Err r
 
 -- `CommonPrefixSearchIter` of src/trie.rs, from element p, n characters in
-unfoldable pub scan : (ℕ → Option ℕ) → List ℕ → List ℕ → ℕ → ℕ → ℕ → List ℕ → Matches
-scan f base check N p n [] = Listed []
+unfoldable pub scan : (ℕ → Option ℕ) → List ℕ → List ℕ → ℕ → ℕ → ℕ → List ℕ → Result (List (ℕ × ℕ)) Refusal
+scan f base check N p n [] = Ok []
 scan f base check N p n (c ∷ q) =
-    next_match (step f base check N p c) (λ d. report (settle base check N d) (suc n) (scan f base check N d (suc n) q))
+    go_on [] (step f base check N p c) (λ d. report (settle base check N d) (suc n) (scan f base check N d (suc n) q))
 
 -- `Trie::common_prefix_search`
-unfoldable pub prefixes : (ℕ → Option ℕ) → List ℕ → List ℕ → ℕ → List ℕ → Matches
+unfoldable pub prefixes : (ℕ → Option ℕ) → List ℕ → List ℕ → ℕ → List ℕ → Result (List (ℕ × ℕ)) Refusal
 prefixes f base check N q = scan f base check N 0 0 q
