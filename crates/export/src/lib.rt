@@ -76,7 +76,7 @@ impl From<Option<usize>> for GroatPlace {
         match found {
             Some(next) => GroatPlace {
                 status: 0,
-                next: next as u64, // no `From` goes from `usize` to 64 bits
+                next: next as u64, // no `From`, and a `try_from` only adds an `unwrap`
             },
             None => GroatPlace {
                 status: NONE,
@@ -91,7 +91,7 @@ impl From<Common> for GroatCommon {
 
     fn from(found: Common) -> GroatCommon {
         GroatCommon {
-            lcp: found.lcp as u64, // no `From` goes from `usize` to 64 bits
+            lcp: found.lcp as u64, // no `From`, and a `try_from` only adds an `unwrap`
             ord: match found.ord {
                 Ordering::Less => 0,
                 Ordering::Equal => 1,

@@ -12,7 +12,7 @@ pub fn code_of(table: &[u32], c: u32) -> Option<u32>
     ensures { result ≡ find table.now c }
 {
     table
-        .get(c as usize) // no `From` goes from 32 bits to `usize`
+        .get(c as usize) // no `From`, and a `try_from` only adds an `unwrap`
         .copied()
         .filter(|&code| code != INVALID_CODE)
 }

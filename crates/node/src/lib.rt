@@ -7,16 +7,22 @@ ghost use Rattle.node.specs.Limits.{arrays_over, query_over, build_over, key_ove
 ghost use Rattle.node.specs.Character.{is_character, character_refusal};
 ghost use Rattle.node.specs.Refusals.{number, carried};
 
+/// Every bit but the top one.
 pub const OFFSET_MASK: u32 = 0x7fff_ffff;
 
+/// No element.
 pub const INVALID_IDX: u32 = 0xffff_ffff;
 
+/// The entry of a character without a code.
 pub const INVALID_CODE: u32 = 0xffff_ffff;
 
+/// The greatest value of a record.
 pub const MAX_VALUE: u32 = 0x7fff_ffff;
 
+/// The code of the end marker.
 pub const END_CODE: u32 = 0;
 
+/// The end marker: no key and no query has it.
 pub const END_MARKER: u32 = 0xffff;
 
 /// The lowest number with its top bit set: `!OFFSET_MASK`.
@@ -151,30 +157,35 @@ pub struct Node {
 
 // `get_base` and `get_check`, `is_leaf` and `has_leaf` stay pairs: each is one call under its Rust name, and a field as a parameter is no plainer.
 impl Node {
+    /// `base` without its top bit.
     pub fn get_base(self) -> u32
         ensures { result ≡ offset self.base }
     {
         masked(self.base)
     }
 
+    /// `check` without its top bit: the parent.
     pub fn get_check(self) -> u32
         ensures { result ≡ offset self.check }
     {
         masked(self.check)
     }
 
+    /// The top bit of `base`.
     pub fn is_leaf(self) -> bool
         ensures { result ≡ top self.base }
     {
         has_top(self.base)
     }
 
+    /// The top bit of `check`: is there a child by code 0?
     pub fn has_leaf(self) -> bool
         ensures { result ≡ top self.check }
     {
         has_top(self.check)
     }
 
+    /// Are both numbers `OFFSET_MASK`?
     #[tactic(auto, unfolding(crate::specs::Element::vacant_pair))]
     pub fn is_vacant(self) -> bool
         ensures { result ≡ vacant_pair self.base self.check }
@@ -182,6 +193,7 @@ impl Node {
         self.base == OFFSET_MASK && self.check == OFFSET_MASK
     }
 
+    /// How many bytes an element takes.
     pub fn io_bytes() -> usize
         ensures { result ≡ 8 }
     {

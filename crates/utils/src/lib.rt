@@ -33,7 +33,7 @@ pub fn pack_size(n: u32) -> u8
 
 /// Writes the lowest `nbytes` bytes of `n` into `out`, from the place `at` on, and answers the place behind them. Where the width is not 1 to 4 or the room
 /// is too short, `out` stays as it was.
-// `at` stays beside `out`: the clauses `answer` and `out_after` are of the whole run.
+// `at` and `nbytes` stay beside `out`, and no part of it: the clauses `answer` and `out_after` are of the whole run, and of widths outside 1 to 4.
 #[tactic(auto, unfolding(crate::specs::Packed::pack_answer, crate::specs::Packed::packed_into, crate::specs::Packed::packable, crate::specs::Packed::width_ok))]
 pub fn pack_u32(out: &mut [u8], at: usize, n: u32, nbytes: u8) -> Option<usize>
     ensures answer { result ≡ pack_answer (length out.old) at nbytes }
@@ -101,7 +101,7 @@ fn put_bytes(out: &mut [u8], n: u32)
 {
     let mut x = n;
     for b in out.iter_mut() {
-        *b = (x % 256) as u8; // no `From` goes from 32 bits to 8
+        *b = (x % 256) as u8; // no `From`, and a `try_from` only adds an `unwrap`
         x /= 256;
     }
 }
