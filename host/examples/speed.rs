@@ -4,13 +4,13 @@
 
 #[path = "../tests/common/mod.rs"]
 mod common;
+mod timing;
 
 #[cfg(oracle)]
 mod against_the_original {
-    use super::common::Random;
+    use super::{common::Random, timing::beside};
     use groatlantern::parts;
     use std::hint::black_box;
-    use std::time::Instant;
 
     /// src/utils.rs, unchanged.
     #[allow(dead_code)]
@@ -18,8 +18,6 @@ mod against_the_original {
         extern crate alloc;
         include!(concat!(env!("CRAWDAD_SRC"), "/src/utils.rs"));
     }
-
-    const ROUNDS: usize = 41;
 
     /// The original's functions are called as ours are: not inlined.
     #[inline(never)]
@@ -35,24 +33,6 @@ mod against_the_original {
     #[inline(never)]
     fn common(a: &[char], b: &[char]) -> (usize, std::cmp::Ordering) {
         utils::longest_common_prefix(a, b)
-    }
-
-    fn median(mut numbers: Vec<f64>) -> f64 {
-        numbers.sort_by(f64::total_cmp);
-        numbers[numbers.len() / 2]
-    }
-
-    fn beside(what: &str, calls: usize, mut ours: impl FnMut(), mut theirs: impl FnMut()) {
-        let time = |run: &mut dyn FnMut()| {
-            let start = Instant::now();
-            run();
-            start.elapsed().as_secs_f64() * 1e9 / calls as f64
-        };
-        let rounds: Vec<(f64, f64)> = (0..ROUNDS).map(|_| (time(&mut ours), time(&mut theirs))).collect();
-        let ours = median(rounds.iter().map(|r| r.0).collect());
-        let theirs = median(rounds.iter().map(|r| r.1).collect());
-        let ratio = median(rounds.iter().map(|r| r.0 / r.1).collect());
-        println!("{what}: {ours:.2} ns, the original {theirs:.2} ns, ratio {ratio:.2}");
     }
 
     pub fn run() {

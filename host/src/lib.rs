@@ -7,3 +7,4 @@ mod boundary;
 mod sys;
 
 pub mod parts;
+pub mod trie;

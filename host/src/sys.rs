@@ -47,4 +47,14 @@ extern "C" {
     pub fn groat_node(base: u32, check: u32) -> GroatNode;
     pub fn groat_is_character(c: u32) -> u32;
     pub fn groat_code_of(table: *const u32, table_len: usize, c: u32) -> u32;
+    pub fn groat_trie_exact_match(
+        table: *const u32,
+        table_len: usize,
+        base: *const u32,
+        base_len: usize,
+        check: *const u32,
+        check_len: usize,
+        query: *const u32,
+        query_len: usize,
+    ) -> GroatAnswer;
 }

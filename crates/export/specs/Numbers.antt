@@ -1,6 +1,8 @@
 -- The numbers of the C answers. status is 0 where there is an answer, a refusal's number of document 01 where the call is refused, and all ones where the
 -- answer is that there is none. Assumes nothing.
-use Rattle.std.specs.Prelude.{Bool, true, false, ℕ, Option, Some, None}
+use Rattle.std.specs.Prelude.{Bool, true, false, ℕ, Option, Some, None, Result, Ok, Err}
+use Rattle.node.specs.declared.Refusal.{Refusal}
+use Rattle.node.specs.Refusals.{number}
 use Rattle.std.specs.declared.cmp.Ordering.{Ordering}
 use Rattle.std.specs.declared.cmp.Ordering.TheVariants.{Less, Equal, Greater}
 use Rattle.export.specs.declared.GroatAnswer.{GroatAnswer}
@@ -24,6 +26,11 @@ placed None = record { status = no_answer; next = 0 }
 abbrev pub unpacked_as : Option ℕ → GroatAnswer
 unpacked_as (Some n) = record { status = 0; value = n }
 unpacked_as None = record { status = no_answer; value = 0 }
+
+-- the answer of exact match: the value, that there is none, or the refusal
+abbrev pub found_as : Result (Option ℕ) Refusal → GroatAnswer
+found_as (Ok value) = unpacked_as value
+found_as (Err r) = record { status = number r; value = 0 }
 
 abbrev pub order_number : Ordering → ℕ
 order_number Less = 0

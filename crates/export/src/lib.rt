@@ -6,9 +6,10 @@ ghost use Rattle.node.specs.Character.{is_character};
 ghost use Rattle.utils.specs.Packed.{pack_size, pack_answer, packed_into, unpack_answer};
 ghost use Rattle.utils.specs.Common.{common, ordering};
 ghost use Rattle.mapper.specs.Code.{code};
-ghost use Rattle.export.specs.Numbers.{placed, unpacked_as, common_parts, node_parts, flag};
+ghost use Rattle.export.specs.Numbers.{placed, unpacked_as, found_as, common_parts, node_parts, flag};
+ghost use Rattle.trie.specs.Trie.{exact_answer};
 
-use node::Node;
+use node::{Node, Refusal};
 use std::cmp::Ordering;
 use utils::Common;
 
@@ -68,7 +69,21 @@ impl From<Option<u32>> for GroatAnswer {
     }
 }
 
-// As the one above, for the other C struct: one for both would need a type of both, which the C interface has not.
+impl From<Result<Option<u32>, Refusal>> for GroatAnswer {
+    ghost from_gives = { λ found answer. answer ≡ found_as found };
+
+    fn from(found: Result<Option<u32>, Refusal>) -> GroatAnswer {
+        match found {
+            Ok(value) => value.into(),
+            Err(refusal) => GroatAnswer {
+                status: refusal.number(),
+                value: 0,
+            },
+        }
+    }
+}
+
+// As the first one, for the other C struct: one for both would need a type of both, which the C interface has not.
 impl From<Option<usize>> for GroatPlace {
     ghost from_gives = { λ found place. place ≡ placed found };
 
@@ -173,4 +188,17 @@ pub extern "C" fn groat_code_of(table: &[u32], c: u32) -> u32
     ensures { result ≡ code table.now c }
 {
     mapper::code_of(table, c).unwrap_or(NONE)
+}
+
+/// The value of a key in a dictionary of the plain form.
+#[unsafe(no_mangle)]
+pub extern "C" fn groat_trie_exact_match(
+    table: &[u32],
+    base: &[u32],
+    check: &[u32],
+    query: &[u32],
+) -> GroatAnswer
+    ensures { result ≡ found_as (exact_answer table.now base.now check.now query.now) }
+{
+    trie::exact_match(table, base, check, query).into()
 }

@@ -1,15 +1,20 @@
 -- The walk of a query down the elements, read by read as src/trie.rs and src/mptrie.rs do it, over how a code is found (f). N is how many elements are lent:
 -- the length of the shorter of base and check. Assumes nothing.
-use Rattle.std.specs.Prelude.{if◌then◌else◌, List, [], ◌∷◌, ℕ, suc, min, Option, Some, None, Result, Ok, Err, length, nat_lt, ◌==◌}
+use Rattle.std.specs.Prelude.{if◌then◌else◌, List, [], ◌∷◌, ℕ, suc, min, Option, Some, None, Result, Ok, Err, length, slice_index, nat_lt, ◌==◌}
 use Rattle.std.specs.Int.Bits.{bit_xor}
 use Rattle.node.specs.Constants.{end_code}
-use Rattle.node.specs.Element.{base_of, parent, leaf, marked}
+use Rattle.node.specs.Element.{offset, top, base_of, parent, leaf}
+use Rattle.node.specs.declared.Node.{Node}
 use Rattle.node.specs.declared.Refusal.{Refusal}
 use Rattle.node.specs.declared.Refusal.TheVariants.{Outside}
 
 -- "to a query or writer N is the length of the shorter run"
 abbrev pub elems : List ℕ → List ℕ → ℕ
 elems base check = min (length base) (length check)
+
+-- element e, if it is inside both runs
+abbrev pub element : List ℕ → List ℕ → ℕ → Option Node
+element base check e = if nat_lt e (elems base check) then Some (record { base = slice_index base e; check = slice_index check e }) else None
 
 -- What a step, a walk or a read comes to: `Ok (Some x)`, x is there; `Ok None`, nothing is; `Err Outside`, it would read outside what is lent.
 -- Go on from what is there. Where nothing is, the answer is `none`.
@@ -33,11 +38,15 @@ unfoldable pub walk : (ℕ → Option ℕ) → List ℕ → List ℕ → ℕ →
 walk f base check N p [] = Ok (Some p)
 walk f base check N p (c ∷ q) = go_on None (step f base check N p c) (λ d. walk f base check N d q)
 
--- `get_value` of the leaf by code 0 of element e, where e's check says that there is one
-unfoldable pub settle_end : List ℕ → List ℕ → ℕ → ℕ → Result (Option ℕ) Refusal
-settle_end base check N e =
-    let l : ℕ = bit_xor (base_of base e) end_code in
-    if marked check e then (if nat_lt l N then Ok (Some (base_of base l)) else Err Outside) else Ok None
+-- the leaf by code 0 of an element with the numbers b and c, where c says that there is one: its `get_value`
+unfoldable pub end_value : List ℕ → ℕ → ℕ → ℕ → Result (Option ℕ) Refusal
+end_value base N b c =
+    let l : ℕ = bit_xor (offset b) end_code in
+    if top c then (if nat_lt l N then Ok (Some (base_of base l)) else Err Outside) else Ok None
+
+-- that of element e
+abbrev pub settle_end : List ℕ → List ℕ → ℕ → ℕ → Result (Option ℕ) Refusal
+settle_end base check N e = end_value base N (slice_index base e) (slice_index check e)
 
 -- the end of a walk of the plain form: a leaf's value, that of the leaf by code 0, or none
 unfoldable pub settle : List ℕ → List ℕ → ℕ → ℕ → Result (Option ℕ) Refusal

@@ -1,2 +1,122 @@
-// What both forms of trie share: a query's refusals, the step to a child, the tail of a leaf. Its definitions stand in specs/; no code yet.
+// What both forms of trie share: an element, the step to a child, where a walk ends, and a query's refusals.
 #![tactic(auto)]
+
+ghost use Rattle.std.specs.Prelude.{◌≡◌, ◌<◌, IsTrue, All};
+ghost use Rattle.mapper.specs.Code.{find};
+ghost use Rattle.walk.specs.Walk.{elems, element, child, step, end_value, settle};
+ghost use Rattle.walk.specs.Query.{offence, query_refusal};
+
+use mapper::code_of;
+use node::{END_CODE, Node, Refusal, Sizes, character_refusal};
+
+/// An element, if it is inside both runs.
+pub fn node_at(base: &[u32], check: &[u32], node_idx: u32) -> Option<Node>
+    ensures { result ≡ element base.now check.now node_idx }
+{
+    let e = node_idx as usize; // no `From` goes from 32 bits to `usize`
+    Some(Node {
+        base: *base.get(e)?,
+        check: *check.get(e)?,
+    })
+}
+
+/// The child of an element by a code: `get_child_idx` of both tries.
+#[tactic(auto, unfolding(crate::specs::Walk::child, node::specs::Element::base_of, node::specs::Element::leaf, node::specs::Element::parent))]
+pub fn get_child_idx(
+    base: &[u32],
+    check: &[u32],
+    node_idx: u32,
+    code: u32,
+) -> Result<Option<u32>, Refusal>
+    ensures { result ≡ child base.now check.now (elems base.now check.now) node_idx code }
+{
+    let node = node_at(base, check, node_idx).ok_or(Refusal::Outside)?;
+    if node.is_leaf() {
+        return Ok(None);
+    }
+    let child_idx = node.get_base() ^ code;
+    let child = node_at(base, check, child_idx).ok_or(Refusal::Outside)?;
+    if child.get_check() == node_idx {
+        Ok(Some(child_idx))
+    } else {
+        Ok(None)
+    }
+}
+
+/// The child of an element by a character.
+pub fn step(
+    table: &[u32],
+    base: &[u32],
+    check: &[u32],
+    node_idx: u32,
+    c: u32,
+) -> Result<Option<u32>, Refusal>
+    ensures { result ≡ step (find table.now) base.now check.now (elems base.now check.now) node_idx c }
+{
+    let Some(code) = code_of(table, c) else {
+        return Ok(None);
+    };
+    get_child_idx(base, check, node_idx, code)
+}
+
+/// The value of the leaf by code 0 of an element, where the element says that there is one.
+#[tactic(auto, unfolding(crate::specs::Walk::end_value, node::specs::Element::base_of))]
+pub fn end_value(base: &[u32], check: &[u32], node: Node) -> Result<Option<u32>, Refusal>
+    ensures { result ≡ end_value base.now (elems base.now check.now) node.base node.check }
+{
+    if !node.has_leaf() {
+        return Ok(None);
+    }
+    let leaf = node_at(base, check, node.get_base() ^ END_CODE).ok_or(Refusal::Outside)?;
+    Ok(Some(leaf.get_base()))
+}
+
+/// The value where a walk of the plain form ends: a leaf's, or that of the leaf by code 0.
+#[tactic(auto, unfolding(crate::specs::Walk::settle, node::specs::Element::base_of, node::specs::Element::leaf))]
+pub fn settle(base: &[u32], check: &[u32], node_idx: u32) -> Result<Option<u32>, Refusal>
+    ensures { result ≡ settle base.now check.now (elems base.now check.now) node_idx }
+{
+    let node = node_at(base, check, node_idx).ok_or(Refusal::Outside)?;
+    if node.is_leaf() {
+        return Ok(Some(node.get_base()));
+    }
+    end_value(base, check, node)
+}
+
+/// The refusal of the first character of a query that is refused by itself. Most queries have only characters below D800, none of which is: that is seen for
+/// many of them at once.
+#[tactic(auto, using(crate::proofs::Offences::low, crate::proofs::Offences::passed, crate::proofs::Offences::met, crate::proofs::Offences::none_met))]
+pub fn offence(query: &[u32]) -> Option<Refusal>
+    ensures { result ≡ offence query.now }
+{
+    if all_low(query) {
+        return None;
+    }
+    for &c in query {
+        let refusal = character_refusal(c);
+        if refusal.is_some() {
+            return refusal;
+        }
+    }
+    None
+}
+
+/// What a query is refused for before its walk: 12, then 11 or 2.
+pub fn query_refusal(sizes: Sizes, query: &[u32]) -> Option<Refusal>
+    ensures { result ≡ query_refusal sizes.elems sizes.table sizes.tails query.now }
+{
+    if sizes.query_over(query.len()) {
+        return Some(Refusal::Limit);
+    }
+    offence(query)
+}
+
+// Are all characters below D800?
+fn all_low(query: &[u32]) -> bool
+    ensures { IsTrue result → All (λ c. c < 0xd800) query.now }
+{
+    match query.iter().copied().max() {
+        Some(highest) => highest < 0xd800,
+        None => true,
+    }
+}

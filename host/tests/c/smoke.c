@@ -32,5 +32,16 @@ int main(void) {
     expect(groat_is_character(0xd800) == 0 && groat_is_character(0xd7ff) == 1, "surrogates are no characters");
     const uint32_t table[2] = {UINT32_C(0xffffffff), 4};
     expect(groat_code_of(table, 2, 1) == 4 && groat_code_of(table, 2, 2) == UINT32_C(0xffffffff), "codes");
+    const uint32_t base[2] = {0, 0x80000007u}, check[2] = {0x7fffffff, 0};
+    const uint32_t codes[3] = {UINT32_C(0xffffffff), 1, UINT32_C(0xffffffff)};
+    const uint32_t key[1] = {1}, other[1] = {2}, marker[1] = {0xffff};
+    GroatAnswer found = groat_trie_exact_match(codes, 3, base, 2, check, 2, key, 1);
+    expect(found.status == 0 && found.value == 7, "a key has its value");
+    found = groat_trie_exact_match(codes, 3, base, 2, check, 2, other, 1);
+    expect(found.status == GROAT_NONE && found.value == 0, "another has none");
+    found = groat_trie_exact_match(codes, 3, base, 2, check, 2, marker, 1);
+    expect(found.status == 2, "the end marker is refused");
+    found = groat_trie_exact_match(codes, 3, base, 0, check, 2, key, 1);
+    expect(found.status == 22, "no elements are outside");
     return failures != 0;
 }

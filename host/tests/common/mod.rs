@@ -63,3 +63,76 @@ impl Random {
         }
     }
 }
+
+/// The arrays of a dictionary, as its bytes have them.
+#[derive(Clone, Debug)]
+pub struct Arrays {
+    pub table: Vec<u32>,
+    pub alphabet: u32,
+    pub base: Vec<u32>,
+    pub check: Vec<u32>,
+}
+
+fn number(bytes: &mut &[u8]) -> u32 {
+    let (first, rest) = bytes.split_at(4);
+    *bytes = rest;
+    u32::from_le_bytes(first.try_into().unwrap())
+}
+
+impl Arrays {
+    /// Those of the plain form.
+    pub fn of_trie(mut bytes: &[u8]) -> Self {
+        let rest = &mut bytes;
+        let length = number(rest);
+        let table = (0..length).map(|_| number(rest)).collect();
+        let alphabet = number(rest);
+        let length = number(rest);
+        let (base, check) = (0..length).map(|_| (number(rest), number(rest))).unzip();
+        assert!(rest.is_empty());
+        Arrays { table, alphabet, base, check }
+    }
+
+    /// The bytes of the plain form.
+    pub fn trie_bytes(&self) -> Vec<u8> {
+        let mut bytes = vec![];
+        let mut put = |n: u32| bytes.extend_from_slice(&n.to_le_bytes());
+        put(self.table.len() as u32);
+        self.table.iter().for_each(|&n| put(n));
+        put(self.alphabet);
+        put(self.base.len() as u32);
+        self.base.iter().zip(&self.check).for_each(|(&b, &c)| {
+            put(b);
+            put(c);
+        });
+        bytes
+    }
+
+    /// One number of the table, base or check becomes another, or the elements are cut short.
+    pub fn damage(&mut self, random: &mut Random) {
+        let elements = self.base.len() as u32;
+        let number = match random.below(4) {
+            0 => random.number(),
+            1 => random.number() % (2 * elements + 1),
+            2 => random.number() % (elements + 1) | 0x8000_0000,
+            _ => [0, 0xffff_ffff, 0x7fff_ffff, 0x8000_0000, 1][random.below(5) as usize],
+        };
+        let used: Vec<usize> = (0..self.table.len()).filter(|&c| self.table[c] != 0xffff_ffff).collect();
+        match random.below(8) {
+            0 => self.table[used[random.below(used.len() as u64) as usize]] = number,
+            1 if elements > 1 => {
+                let length = random.below(u64::from(elements)) as usize;
+                self.base.truncate(length);
+                self.check.truncate(length);
+            }
+            2 | 3 if elements > 0 => {
+                let at = random.below(u64::from(elements)) as usize;
+                self.check[at] = number;
+            }
+            _ if elements > 0 => {
+                let at = random.below(u64::from(elements)) as usize;
+                self.base[at] = number;
+            }
+            _ => {}
+        }
+    }
+}

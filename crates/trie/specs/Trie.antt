@@ -1,0 +1,10 @@
+-- The queries of the plain form, whole: src/trie.rs, and the refusals around it. Assumes nothing.
+use Rattle.std.specs.Prelude.{List, ℕ, Option, Result, length}
+use Rattle.node.specs.declared.Refusal.{Refusal}
+use Rattle.mapper.specs.Code.{find}
+use Rattle.walk.specs.Walk.{elems, exact}
+use Rattle.walk.specs.Query.{query_refusal, unless}
+
+-- exact match of a query on the runs table, base and check: 12, then 11 or 2, then what the walk finds, 22 among it
+abbrev pub exact_answer : List ℕ → List ℕ → List ℕ → List ℕ → Result (Option ℕ) Refusal
+exact_answer table base check query = unless (query_refusal (elems base check) (length table) 0 query) (exact (find table) base check (elems base check) query)

@@ -1,0 +1,43 @@
+//! The plain form of a dictionary: lookups on its arrays.
+
+use crate::sys;
+
+/// The number of a refusal in document 01's table.
+#[derive(Clone, Copy, Debug, PartialEq, Eq)]
+pub struct Refused(pub u32);
+
+/// The arrays of a dictionary of the plain form. Any arrays may stand here: a lookup is total.
+#[derive(Clone, Copy, Debug)]
+pub struct Trie<'a> {
+    /// The code of each character.
+    pub table: &'a [u32],
+    /// The base of each element.
+    pub base: &'a [u32],
+    /// The check of each element.
+    pub check: &'a [u32],
+}
+
+impl Trie<'_> {
+    /// The value of a key, given as code points.
+    pub fn exact_match(&self, query: &[u32]) -> Result<Option<u32>, Refused> {
+        let (table, base, check) = (self.table, self.base, self.check);
+        // SAFETY: each pointer and length are those of one slice, lent for the call.
+        let answer = unsafe {
+            sys::groat_trie_exact_match(
+                table.as_ptr(),
+                table.len(),
+                base.as_ptr(),
+                base.len(),
+                check.as_ptr(),
+                check.len(),
+                query.as_ptr(),
+                query.len(),
+            )
+        };
+        match answer.status {
+            0 => Ok(Some(answer.value)),
+            sys::NONE => Ok(None),
+            number => Err(Refused(number)),
+        }
+    }
+}

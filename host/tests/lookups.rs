@@ -1,0 +1,126 @@
+//! Lookups against the original, through the C functions.
+
+mod common;
+
+#[cfg(oracle)]
+mod against_the_original {
+    extern crate crawdad;
+
+    use super::common::{caught, Arrays, Random};
+    use groatlantern::trie::{Refused, Trie};
+    use std::collections::BTreeSet;
+
+    /// Keys over `alphabet` characters: some short, some long, some that begin with another.
+    fn keys(random: &mut Random, alphabet: u32, count: usize) -> Vec<Vec<char>> {
+        let first = [0x61, 0x4e00, 0x3042, 0x1_f300][random.below(4) as usize];
+        let mut keys = BTreeSet::new();
+        let mut last: Vec<char> = vec![];
+        for _ in 0..count {
+            let longest = if random.below(8) == 0 { 40 } else { 6 };
+            let length = 1 + random.below(longest) as usize;
+            let mut key: Vec<char> = if random.below(3) == 0 { last.clone() } else { vec![] };
+            key.extend((0..length).map(|_| char::from_u32(first + random.below(u64::from(alphabet)) as u32).unwrap()));
+            keys.insert(key.clone());
+            last = key;
+        }
+        keys.into_iter().collect()
+    }
+
+    /// A query: a key, one with a character changed, added or taken away, or anything.
+    fn query(random: &mut Random, keys: &[Vec<char>]) -> Vec<char> {
+        let mut query = keys[random.below(keys.len() as u64) as usize].clone();
+        let other = |random: &mut Random| {
+            let key = &keys[random.below(keys.len() as u64) as usize];
+            key[random.below(key.len() as u64) as usize]
+        };
+        match random.below(6) {
+            0 => query.push(other(random)),
+            1 => drop(query.pop()),
+            2 | 3 => {
+                let at = random.below(query.len() as u64) as usize;
+                query[at] = other(random);
+            }
+            4 => {
+                let length = random.below(5);
+                query = (0..length).map(|_| char::from_u32(random.number() % 0xd800).unwrap()).collect();
+            }
+            _ => {}
+        }
+        query
+    }
+
+    fn points(query: &[char]) -> Vec<u32> {
+        query.iter().map(|&c| u32::from(c)).collect()
+    }
+
+    #[test]
+    fn exact_match_of_the_plain_form() {
+        let mut random = Random::new("exact match, plain", 2);
+        let (mut asked, mut found) = (0, 0);
+        for round in 0..200 {
+            let alphabet = [1, 2, 3, 5, 26, 300, 3000][round % 7];
+            let count = 1 + random.below(400) as usize;
+            let keys = keys(&mut random, alphabet, count);
+            let trie = crawdad::Trie::from_keys(keys.iter().map(|k| k.iter().collect::<String>())).unwrap();
+            let arrays = Arrays::of_trie(&trie.serialize_to_vec());
+            let ours = Trie { table: &arrays.table, base: &arrays.base, check: &arrays.check };
+            for _ in 0..200 {
+                let query = query(&mut random, &keys);
+                let theirs = trie.exact_match(query.iter().copied());
+                assert_eq!(ours.exact_match(&points(&query)), Ok(theirs), "{query:?} of {keys:?}");
+                asked += 1;
+                found += usize::from(theirs.is_some());
+            }
+        }
+        println!("{asked} queries, {found} found");
+        assert!(found * 5 > asked && found < asked);
+    }
+
+    #[test]
+    fn exact_match_on_damaged_arrays() {
+        let mut random = Random::new("exact match, damaged", 3);
+        let mut outside = 0;
+        for _ in 0..200 {
+            let keys = keys(&mut random, 4, 60);
+            let bytes = crawdad::Trie::from_keys(keys.iter().map(|k| k.iter().collect::<String>())).unwrap().serialize_to_vec();
+            let mut arrays = Arrays::of_trie(&bytes);
+            for _ in 0..1 + random.below(6) {
+                arrays.damage(&mut random);
+            }
+            let (theirs, _) = crawdad::Trie::deserialize_from_slice(&arrays.trie_bytes());
+            let ours = Trie { table: &arrays.table, base: &arrays.base, check: &arrays.check };
+            for _ in 0..100 {
+                let query = query(&mut random, &keys);
+                let answer = match caught(|| theirs.exact_match(query.iter().copied())) {
+                    Some(answer) => Ok(answer),
+                    None => Err(Refused(22)),
+                };
+                outside += usize::from(answer.is_err());
+                assert_eq!(ours.exact_match(&points(&query)), answer, "{query:?} on {arrays:?}");
+            }
+        }
+        println!("{outside} outside");
+        assert!(outside > 100);
+    }
+}
+
+#[test]
+fn refusals_come_in_their_order() {
+    use groatlantern::trie::{Refused, Trie};
+    let table = vec![0xffff_ffff; 0x61];
+    let (base, check) = ([0u32; 1], [0x7fff_ffffu32; 1]);
+    let plain = Trie { table: &table, base: &base, check: &check };
+    assert_eq!(plain.exact_match(&[0x61, 0xd800, 0xffff]), Err(Refused(11)));
+    assert_eq!(plain.exact_match(&[0x61, 0xffff, 0xd800]), Err(Refused(2)));
+    assert_eq!(plain.exact_match(&[0x61, 0x11_0000]), Err(Refused(11)));
+    assert_eq!(plain.exact_match(&vec![0x61; 65_535]), Ok(None));
+    assert_eq!(plain.exact_match(&vec![0xffff; 65_536]), Err(Refused(12)));
+    let long = vec![0xffff_ffff; 1_114_113];
+    assert_eq!(Trie { table: &long[1..], ..plain }.exact_match(&[0x61]), Ok(None));
+    assert_eq!(Trie { table: &long, ..plain }.exact_match(&[0x61]), Err(Refused(12)));
+    let none = Trie { table: &table, base: &[], check: &check };
+    assert_eq!(none.exact_match(&[]), Err(Refused(22)));
+    assert_eq!(none.exact_match(&[0x61]), Ok(None));
+    assert_eq!(Trie { table: &[3; 0x62], ..none }.exact_match(&[0x61]), Err(Refused(22)));
+    assert_eq!(Trie { table: &[3; 0x62], ..none }.exact_match(&[0x61, 0xffff]), Err(Refused(2)));
+}
