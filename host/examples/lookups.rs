@@ -14,7 +14,7 @@ mod against_the_original {
         common::{Arrays, Random},
         timing::beside,
     };
-    use groatlantern::trie::Trie;
+    use groatlantern::{mptrie::MpTrie, trie::Trie};
     use std::collections::BTreeSet;
     use std::hint::black_box;
 
@@ -45,12 +45,21 @@ mod against_the_original {
         trie.exact_match(query.iter().copied())
     }
 
+    #[inline(never)]
+    fn exact_mp(trie: &crawdad::MpTrie, query: &[char]) -> Option<u32> {
+        trie.exact_match(query.iter().copied())
+    }
+
     pub fn run() {
         let mut random = Random::new("lookups", 4);
         let names = names(&mut random);
         let trie = crawdad::Trie::from_keys(&names).unwrap();
-        let arrays = Arrays::of_trie(&trie.serialize_to_vec());
+        let arrays = Arrays::of(&trie.serialize_to_vec());
         let ours = Trie { table: &arrays.table, base: &arrays.base, check: &arrays.check };
+        let mptrie = crawdad::MpTrie::from_keys(&names).unwrap();
+        let mp_arrays = Arrays::of(&mptrie.serialize_to_vec());
+        let (code_width, value_width) = mp_arrays.widths;
+        let minimal = MpTrie { table: &mp_arrays.table, base: &mp_arrays.base, check: &mp_arrays.check, tails: &mp_arrays.tails, code_width, value_width };
         let mut hits: Vec<Vec<char>> = names.iter().map(|n| n.chars().collect()).collect();
         for i in (1..hits.len()).rev() {
             hits.swap(i, random.below(i as u64 + 1) as usize);
@@ -70,12 +79,19 @@ mod against_the_original {
             let numbers = points(queries);
             for (q, n) in queries.iter().zip(&numbers) {
                 assert_eq!(ours.exact_match(n), Ok(exact(&trie, q)));
+                assert_eq!(minimal.exact_match(n), Ok(exact_mp(&mptrie, q)));
             }
             beside(
                 &format!("exact match, plain, {what}"),
                 queries.len(),
                 || numbers.iter().for_each(|q| _ = black_box(ours.exact_match(q))),
                 || queries.iter().for_each(|q| _ = black_box(exact(&trie, q))),
+            );
+            beside(
+                &format!("exact match, minimal-prefix, {what}"),
+                queries.len(),
+                || numbers.iter().for_each(|q| _ = black_box(minimal.exact_match(q))),
+                || queries.iter().for_each(|q| _ = black_box(exact_mp(&mptrie, q))),
             );
         }
     }

@@ -6,5 +6,6 @@
 mod boundary;
 mod sys;
 
+pub mod mptrie;
 pub mod parts;
 pub mod trie;

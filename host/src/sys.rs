@@ -57,4 +57,18 @@ extern "C" {
         query: *const u32,
         query_len: usize,
     ) -> GroatAnswer;
+    pub fn groat_mptrie_exact_match(
+        table: *const u32,
+        table_len: usize,
+        base: *const u32,
+        base_len: usize,
+        check: *const u32,
+        check_len: usize,
+        tails: *const u8,
+        tails_len: usize,
+        code_width: u8,
+        value_width: u8,
+        query: *const u32,
+        query_len: usize,
+    ) -> GroatAnswer;
 }

@@ -6,6 +6,15 @@ use crate::sys;
 #[derive(Clone, Copy, Debug, PartialEq, Eq)]
 pub struct Refused(pub u32);
 
+/// What an answer of exact match says.
+pub(crate) fn found(answer: sys::GroatAnswer) -> Result<Option<u32>, Refused> {
+    match answer.status {
+        0 => Ok(Some(answer.value)),
+        sys::NONE => Ok(None),
+        number => Err(Refused(number)),
+    }
+}
+
 /// The arrays of a dictionary of the plain form. Any arrays may stand here: a lookup is total.
 #[derive(Clone, Copy, Debug)]
 pub struct Trie<'a> {
@@ -34,10 +43,6 @@ impl Trie<'_> {
                 query.len(),
             )
         };
-        match answer.status {
-            0 => Ok(Some(answer.value)),
-            sys::NONE => Ok(None),
-            number => Err(Refused(number)),
-        }
+        found(answer)
     }
 }

@@ -7,6 +7,7 @@ mod against_the_original {
     extern crate crawdad;
 
     use super::common::{caught, Arrays, Random};
+    use groatlantern::mptrie::MpTrie;
     use groatlantern::trie::{Refused, Trie};
     use std::collections::BTreeSet;
 
@@ -53,54 +54,78 @@ mod against_the_original {
         query.iter().map(|&c| u32::from(c)).collect()
     }
 
+    fn texts(keys: &[Vec<char>]) -> Vec<String> {
+        keys.iter().map(|k| k.iter().collect()).collect()
+    }
+
+    fn plain(arrays: &Arrays) -> Trie<'_> {
+        Trie { table: &arrays.table, base: &arrays.base, check: &arrays.check }
+    }
+
+    fn minimal(arrays: &Arrays) -> MpTrie<'_> {
+        let (code_width, value_width) = arrays.widths;
+        MpTrie { table: &arrays.table, base: &arrays.base, check: &arrays.check, tails: &arrays.tails, code_width, value_width }
+    }
+
     #[test]
-    fn exact_match_of_the_plain_form() {
-        let mut random = Random::new("exact match, plain", 2);
+    fn exact_match_of_both_forms() {
+        let mut random = Random::new("exact match", 2);
         let (mut asked, mut found) = (0, 0);
         for round in 0..200 {
             let alphabet = [1, 2, 3, 5, 26, 300, 3000][round % 7];
             let count = 1 + random.below(400) as usize;
             let keys = keys(&mut random, alphabet, count);
-            let trie = crawdad::Trie::from_keys(keys.iter().map(|k| k.iter().collect::<String>())).unwrap();
-            let arrays = Arrays::of_trie(&trie.serialize_to_vec());
-            let ours = Trie { table: &arrays.table, base: &arrays.base, check: &arrays.check };
+            let trie = crawdad::Trie::from_keys(texts(&keys)).unwrap();
+            let mptrie = crawdad::MpTrie::from_keys(texts(&keys)).unwrap();
+            let (arrays, mp_arrays) = (Arrays::of(&trie.serialize_to_vec()), Arrays::of(&mptrie.serialize_to_vec()));
             for _ in 0..200 {
                 let query = query(&mut random, &keys);
                 let theirs = trie.exact_match(query.iter().copied());
-                assert_eq!(ours.exact_match(&points(&query)), Ok(theirs), "{query:?} of {keys:?}");
+                assert_eq!(plain(&arrays).exact_match(&points(&query)), Ok(theirs), "{query:?} of {keys:?}");
+                let theirs = mptrie.exact_match(query.iter().copied());
+                assert_eq!(minimal(&mp_arrays).exact_match(&points(&query)), Ok(theirs), "{query:?} of {keys:?}");
                 asked += 1;
                 found += usize::from(theirs.is_some());
             }
         }
-        println!("{asked} queries, {found} found");
+        println!("{asked} queries of each form, {found} found");
         assert!(found * 5 > asked && found < asked);
+    }
+
+    /// What the original answers; a panic is refusal 22.
+    fn or_outside(run: impl FnOnce() -> Option<u32>) -> Result<Option<u32>, Refused> {
+        caught(run).ok_or(Refused(22))
     }
 
     #[test]
     fn exact_match_on_damaged_arrays() {
         let mut random = Random::new("exact match, damaged", 3);
-        let mut outside = 0;
-        for _ in 0..200 {
+        let mut outside = (0, 0);
+        for _ in 0..300 {
             let keys = keys(&mut random, 4, 60);
-            let bytes = crawdad::Trie::from_keys(keys.iter().map(|k| k.iter().collect::<String>())).unwrap().serialize_to_vec();
-            let mut arrays = Arrays::of_trie(&bytes);
+            let mut arrays = Arrays::of(&crawdad::Trie::from_keys(texts(&keys)).unwrap().serialize_to_vec());
+            let mut mp_arrays = Arrays::of(&crawdad::MpTrie::from_keys(texts(&keys)).unwrap().serialize_to_vec());
             for _ in 0..1 + random.below(6) {
                 arrays.damage(&mut random);
+                match random.below(2) {
+                    0 => mp_arrays.damage(&mut random),
+                    _ => mp_arrays.damage_tails(&mut random),
+                }
             }
-            let (theirs, _) = crawdad::Trie::deserialize_from_slice(&arrays.trie_bytes());
-            let ours = Trie { table: &arrays.table, base: &arrays.base, check: &arrays.check };
+            let (trie, _) = crawdad::Trie::deserialize_from_slice(&arrays.trie_bytes());
+            let (mptrie, _) = crawdad::MpTrie::deserialize_from_slice(&mp_arrays.mptrie_bytes());
             for _ in 0..100 {
                 let query = query(&mut random, &keys);
-                let answer = match caught(|| theirs.exact_match(query.iter().copied())) {
-                    Some(answer) => Ok(answer),
-                    None => Err(Refused(22)),
-                };
-                outside += usize::from(answer.is_err());
-                assert_eq!(ours.exact_match(&points(&query)), answer, "{query:?} on {arrays:?}");
+                let theirs = or_outside(|| trie.exact_match(query.iter().copied()));
+                outside.0 += usize::from(theirs.is_err());
+                assert_eq!(plain(&arrays).exact_match(&points(&query)), theirs, "{query:?} on {arrays:?}");
+                let theirs = or_outside(|| mptrie.exact_match(query.iter().copied()));
+                outside.1 += usize::from(theirs.is_err());
+                assert_eq!(minimal(&mp_arrays).exact_match(&points(&query)), theirs, "{query:?} on {mp_arrays:?}");
             }
         }
-        println!("{outside} outside");
-        assert!(outside > 100);
+        println!("{outside:?} outside");
+        assert!(outside.0 > 100 && outside.1 > 100);
     }
 }
 
@@ -123,4 +148,29 @@ fn refusals_come_in_their_order() {
     assert_eq!(none.exact_match(&[0x61]), Ok(None));
     assert_eq!(Trie { table: &[3; 0x62], ..none }.exact_match(&[0x61]), Err(Refused(22)));
     assert_eq!(Trie { table: &[3; 0x62], ..none }.exact_match(&[0x61, 0xffff]), Err(Refused(2)));
+}
+
+#[test]
+fn the_minimal_prefix_form_refuses_too() {
+    use groatlantern::{mptrie::MpTrie, trie::Refused};
+    let table = vec![0xffff_ffff; 0x62];
+    let (base, check) = ([0u32; 1], [0x7fff_ffffu32; 1]);
+    let minimal = MpTrie { table: &table, base: &base, check: &check, tails: &[], code_width: 1, value_width: 1 };
+    assert_eq!(minimal.exact_match(&[0x61, 0xd800, 0xffff]), Err(Refused(11)));
+    assert_eq!(minimal.exact_match(&[0x61, 0xffff, 0xd800]), Err(Refused(2)));
+    assert_eq!(minimal.exact_match(&vec![0x61; 65_535]), Ok(None));
+    assert_eq!(minimal.exact_match(&vec![0x61; 65_536]), Err(Refused(12)));
+    let long = vec![0; 16_777_217];
+    assert_eq!(MpTrie { tails: &long[1..], ..minimal }.exact_match(&[0x61]), Ok(None));
+    assert_eq!(MpTrie { tails: &long, ..minimal }.exact_match(&[0x61]), Err(Refused(12)));
+    let none = MpTrie { base: &[], ..minimal };
+    assert_eq!(none.exact_match(&[]), Err(Refused(22)));
+    assert_eq!(none.exact_match(&[0x61]), Err(Refused(22)));
+    let mut codes = table.clone();
+    codes[0x61] = 1;
+    let leaf = MpTrie { table: &codes, base: &[0, 0x8000_0000], check: &[0x7fff_ffff, 0], tails: &[0, 7], ..minimal };
+    assert_eq!(leaf.exact_match(&[0x61]), Ok(Some(7)));
+    assert_eq!(MpTrie { value_width: 0, ..leaf }.exact_match(&[0x61]), Err(Refused(22)));
+    assert_eq!(MpTrie { value_width: 0, ..leaf }.exact_match(&[0x61, 0x61]), Ok(None));
+    assert_eq!(MpTrie { code_width: 0, ..leaf }.exact_match(&[0x61]), Ok(Some(7)));
 }

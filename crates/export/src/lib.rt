@@ -8,6 +8,7 @@ ghost use Rattle.utils.specs.Common.{common, ordering};
 ghost use Rattle.mapper.specs.Code.{code};
 ghost use Rattle.export.specs.Numbers.{placed, unpacked_as, found_as, common_parts, node_parts, flag};
 ghost use Rattle.trie.specs.Trie.{exact_answer};
+ghost use Rattle.mptrie.specs.MpTrie as MpTrie;
 
 use node::{Node, Refusal};
 use std::cmp::Ordering;
@@ -201,4 +202,20 @@ pub extern "C" fn groat_trie_exact_match(
     ensures { result ≡ found_as (exact_answer table.now base.now check.now query.now) }
 {
     trie::exact_match(table, base, check, query).into()
+}
+
+/// The value of a key in a dictionary of the minimal-prefix form.
+#[unsafe(no_mangle)]
+pub extern "C" fn groat_mptrie_exact_match(
+    table: &[u32],
+    base: &[u32],
+    check: &[u32],
+    tails: &[u8],
+    code_width: u8,
+    value_width: u8,
+    query: &[u32],
+) -> GroatAnswer
+    ensures { result ≡ found_as (MpTrie.exact_answer table.now base.now check.now tails.now code_width value_width query.now) }
+{
+    mptrie::exact_match(table, base, check, tails, code_width, value_width, query).into()
 }

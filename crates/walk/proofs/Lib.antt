@@ -1,1 +1,2 @@
 pub mod Offences
+pub mod Tails

@@ -7,11 +7,14 @@ use Rattle.node.specs.declared.Refusal.TheVariants.{Outside}
 use Rattle.utils.specs.Packed.{unpacked, readable}
 use Rattle.walk.specs.Walk.{go_on, step, settle_end, report}
 
--- the rest of a query against the n codes at the start of t. A code is read before the query's next character; the value behind the codes only if the query
--- has ended.
+-- the value behind the codes of a tail, if the query ends there; it is not read otherwise
+abbrev pub tail_value : ℕ → List ℕ → List ℕ → Result (Option ℕ) Refusal
+tail_value vw t [] = if readable t vw then Ok (Some (unpacked t vw)) else Err Outside
+tail_value vw t (c ∷ q) = Ok None
+
+-- the rest of a query against the n codes at the start of t. A code is read before the query's next character.
 unfoldable pub tail_match : (ℕ → Option ℕ) → ℕ → ℕ → List ℕ → ℕ → List ℕ → Result (Option ℕ) Refusal
-tail_match f cw vw t zero [] = if readable t vw then Ok (Some (unpacked t vw)) else Err Outside
-tail_match f cw vw t zero (c ∷ q) = Ok None
+tail_match f cw vw t zero q = tail_value vw t q
 tail_match f cw vw t (suc n) [] = if readable t cw then Ok None else Err Outside
 tail_match f cw vw t (suc n) (c ∷ q) =
     if readable t cw then go_on None (Ok (f c)) (λ x. if x == unpacked t cw then tail_match f cw vw (drop cw t) n q else Ok None) else Err Outside

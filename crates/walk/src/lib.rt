@@ -1,13 +1,15 @@
 // What both forms of trie share: an element, the step to a child, where a walk ends, and a query's refusals.
 #![tactic(auto)]
 
-ghost use Rattle.std.specs.Prelude.{◌≡◌, ◌<◌, IsTrue, All};
+ghost use Rattle.std.specs.Prelude.{◌≡◌, ◌<◌, IsTrue, All, drop};
 ghost use Rattle.mapper.specs.Code.{find};
 ghost use Rattle.walk.specs.Walk.{elems, element, child, step, end_value, settle};
+ghost use Rattle.walk.specs.Tail.{tail_at, tail_match, tail_value};
 ghost use Rattle.walk.specs.Query.{offence, query_refusal};
 
 use mapper::code_of;
 use node::{END_CODE, Node, Refusal, Sizes, character_refusal};
+use utils::unpack_u32;
 
 /// An element, if it is inside both runs.
 pub fn node_at(base: &[u32], check: &[u32], node_idx: u32) -> Option<Node>
@@ -109,6 +111,84 @@ pub fn query_refusal(sizes: Sizes, query: &[u32]) -> Option<Refusal>
         return Some(Refusal::Limit);
     }
     offence(query)
+}
+
+/// The rest of a query against a leaf's tail, in the tail bytes from a place on: first a byte that says how many codes follow.
+#[tactic(auto, unfolding(crate::specs::Tail::tail_at))]
+pub fn settle_tail(
+    table: &[u32],
+    tails: &[u8],
+    code_width: u8,
+    value_width: u8,
+    tail_pos: u32,
+    query: &[u32],
+) -> Result<Option<u32>, Refusal>
+    ensures { result ≡ tail_at (find table.now) code_width value_width (drop tail_pos tails.now) query.now }
+{
+    let pos = tail_pos as usize; // no `From`, and a `try_from` only adds an `unwrap`
+    if tails.len() <= pos {
+        return Err(Refusal::Outside);
+    }
+    tail_match(
+        table,
+        &tails[pos + 1..],
+        code_width,
+        value_width,
+        tails[pos],
+        query,
+    )
+}
+
+// The rest of a query against the codes at the start of a tail, and the value behind them.
+#[tactic(auto, using(crate::proofs::Tails::no_code_left, crate::proofs::Tails::unread, crate::proofs::Tails::ends, crate::proofs::Tails::unknown, crate::proofs::Tails::differs, crate::proofs::Tails::alike, crate::proofs::Tails::inside))]
+fn tail_match(
+    table: &[u32],
+    tail: &[u8],
+    code_width: u8,
+    value_width: u8,
+    length: u8,
+    query: &[u32],
+) -> Result<Option<u32>, Refusal>
+    ensures { result ≡ tail_match (find table.now) code_width value_width tail.now length query.now }
+{
+    if length == 0 {
+        return tail_value(tail, value_width, query);
+    }
+    let Some(code) = unpack_u32(tail, code_width) else {
+        return Err(Refusal::Outside);
+    };
+    if query.is_empty() {
+        return Ok(None);
+    }
+    let Some(x) = code_of(table, query[0]) else {
+        return Ok(None);
+    };
+    if x != code {
+        return Ok(None);
+    }
+    let w = usize::from(code_width);
+    tail_match(
+        table,
+        &tail[w..],
+        code_width,
+        value_width,
+        length - 1,
+        &query[1..],
+    )
+}
+
+// The value behind the codes of a tail, if the query ends there.
+#[tactic(auto, unfolding(utils::specs::Packed::unpack_answer))]
+fn tail_value(tail: &[u8], value_width: u8, query: &[u32]) -> Result<Option<u32>, Refusal>
+    ensures { result ≡ tail_value value_width tail.now query.now }
+{
+    if !query.is_empty() {
+        return Ok(None);
+    }
+    match unpack_u32(tail, value_width) {
+        Some(value) => Ok(Some(value)),
+        None => Err(Refusal::Outside),
+    }
 }
 
 // Are all characters below D800?

@@ -43,5 +43,11 @@ int main(void) {
     expect(found.status == 2, "the end marker is refused");
     found = groat_trie_exact_match(codes, 3, base, 0, check, 2, key, 1);
     expect(found.status == 22, "no elements are outside");
+    const uint32_t mp_base[2] = {0, 0x80000000u}, mp_check[2] = {0x7fffffff, 0};
+    const uint8_t tails[2] = {0, 7};
+    found = groat_mptrie_exact_match(codes, 3, mp_base, 2, mp_check, 2, tails, 2, 1, 1, key, 1);
+    expect(found.status == 0 && found.value == 7, "a key has its value in its tail");
+    found = groat_mptrie_exact_match(codes, 3, mp_base, 2, mp_check, 2, tails, 1, 1, 1, key, 1);
+    expect(found.status == 22, "a value behind the tails is outside");
     return failures != 0;
 }

@@ -71,6 +71,8 @@ pub struct Arrays {
     pub alphabet: u32,
     pub base: Vec<u32>,
     pub check: Vec<u32>,
+    pub tails: Vec<u8>,
+    pub widths: (u8, u8),
 }
 
 fn number(bytes: &mut &[u8]) -> u32 {
@@ -80,16 +82,43 @@ fn number(bytes: &mut &[u8]) -> u32 {
 }
 
 impl Arrays {
-    /// Those of the plain form.
-    pub fn of_trie(mut bytes: &[u8]) -> Self {
+    /// Those of either form.
+    pub fn of(mut bytes: &[u8]) -> Self {
         let rest = &mut bytes;
         let length = number(rest);
         let table = (0..length).map(|_| number(rest)).collect();
         let alphabet = number(rest);
         let length = number(rest);
         let (base, check) = (0..length).map(|_| (number(rest), number(rest))).unzip();
-        assert!(rest.is_empty());
-        Arrays { table, alphabet, base, check }
+        let mut arrays = Arrays { table, alphabet, base, check, tails: vec![], widths: (0, 0) };
+        if !rest.is_empty() {
+            let length = number(rest) as usize;
+            arrays.tails = rest[..length].to_vec();
+            arrays.widths = (rest[length], rest[length + 1]);
+            assert_eq!(rest.len(), length + 2);
+        }
+        arrays
+    }
+
+    /// The bytes of the minimal-prefix form.
+    pub fn mptrie_bytes(&self) -> Vec<u8> {
+        let mut bytes = self.trie_bytes();
+        bytes.extend_from_slice(&(self.tails.len() as u32).to_le_bytes());
+        bytes.extend_from_slice(&self.tails);
+        bytes.extend([self.widths.0, self.widths.1]);
+        bytes
+    }
+
+    /// One byte of the tails or one width becomes another, or the tails are cut short. No width becomes 0: docs/DIFFERENCES.md.
+    pub fn damage_tails(&mut self, random: &mut Random) {
+        let at = random.below(self.tails.len() as u64) as usize;
+        match random.below(6) {
+            0 => self.tails.truncate(at),
+            1 => self.widths.0 = [1, 2, 3, 4, 5, 255][random.below(6) as usize],
+            2 => self.widths.1 = [1, 2, 3, 4, 5, 255][random.below(6) as usize],
+            _ if !self.tails.is_empty() => self.tails[at] = random.number() as u8,
+            _ => {}
+        }
     }
 
     /// The bytes of the plain form.
