@@ -70,6 +70,9 @@ GroatAnswer groat_trie_exact_match(const uint32_t *table, size_t table_len, cons
 /* The value of a key in a dictionary of the minimal-prefix form; GROAT_NONE, or refusal 12, 11, 2 or 22. */
 GroatAnswer groat_mptrie_exact_match(const uint32_t *table, size_t table_len, const uint32_t *base, size_t base_len, const uint32_t *check, size_t check_len, const uint8_t *tails, size_t tails_len, uint8_t code_width, uint8_t value_width, const uint32_t *query, size_t query_len);
 
+/* The keys that begin a query, in a dictionary of the plain form, shortest first: their values and lengths, and in next how many; or refusal 12, 11, 2, 22 or 23. */
+GroatPlace groat_trie_common_prefix_search(const uint32_t *table, size_t table_len, const uint32_t *base, size_t base_len, const uint32_t *check, size_t check_len, const uint32_t *query, size_t query_len, uint32_t *values, size_t values_len, uint32_t *lengths, size_t lengths_len);
+
 #ifdef __cplusplus
 }
 #endif

@@ -50,6 +50,17 @@ mod against_the_original {
         trie.exact_match(query.iter().copied())
     }
 
+    #[inline(never)]
+    fn prefixes(trie: &crawdad::Trie, query: &[char], values: &mut [u32], lengths: &mut [u32]) -> usize {
+        let mut n = 0;
+        for (value, length) in trie.common_prefix_search(query.iter().copied()) {
+            values[n] = value;
+            lengths[n] = length as u32;
+            n += 1;
+        }
+        n
+    }
+
     pub fn run() {
         let mut random = Random::new("lookups", 4);
         let names = names(&mut random);
@@ -86,6 +97,14 @@ mod against_the_original {
                 queries.len(),
                 || numbers.iter().for_each(|q| _ = black_box(ours.exact_match(q))),
                 || queries.iter().for_each(|q| _ = black_box(exact(&trie, q))),
+            );
+            let (mut values, mut lengths) = ([0; 32], [0; 32]);
+            let (mut their_values, mut their_lengths) = ([0; 32], [0; 32]);
+            beside(
+                &format!("prefix search, plain, {what}"),
+                queries.len(),
+                || numbers.iter().for_each(|q| _ = black_box(ours.common_prefix_search(q, &mut values, &mut lengths))),
+                || queries.iter().for_each(|q| _ = black_box(prefixes(&trie, q, &mut their_values, &mut their_lengths))),
             );
             beside(
                 &format!("exact match, minimal-prefix, {what}"),

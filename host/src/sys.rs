@@ -71,4 +71,18 @@ extern "C" {
         query: *const u32,
         query_len: usize,
     ) -> GroatAnswer;
+    pub fn groat_trie_common_prefix_search(
+        table: *const u32,
+        table_len: usize,
+        base: *const u32,
+        base_len: usize,
+        check: *const u32,
+        check_len: usize,
+        query: *const u32,
+        query_len: usize,
+        values: *mut u32,
+        values_len: usize,
+        lengths: *mut u32,
+        lengths_len: usize,
+    ) -> GroatPlace;
 }

@@ -45,4 +45,31 @@ impl Trie<'_> {
         };
         found(answer)
     }
+
+    /// The keys that begin a query, given as code points: the first so many places of `values` and `lengths` become their values and
+    /// lengths, shortest first. Nothing is written if the search is refused.
+    pub fn common_prefix_search(&self, query: &[u32], values: &mut [u32], lengths: &mut [u32]) -> Result<usize, Refused> {
+        let (table, base, check) = (self.table, self.base, self.check);
+        // SAFETY: each pointer and length are those of one slice, lent for the call, and the two that are written overlap nothing.
+        let place = unsafe {
+            sys::groat_trie_common_prefix_search(
+                table.as_ptr(),
+                table.len(),
+                base.as_ptr(),
+                base.len(),
+                check.as_ptr(),
+                check.len(),
+                query.as_ptr(),
+                query.len(),
+                values.as_mut_ptr(),
+                values.len(),
+                lengths.as_mut_ptr(),
+                lengths.len(),
+            )
+        };
+        match place.status {
+            0 => Ok(place.next as usize),
+            number => Err(Refused(number)),
+        }
+    }
 }

@@ -93,8 +93,49 @@ mod against_the_original {
     }
 
     /// What the original answers; a panic is refusal 22.
-    fn or_outside(run: impl FnOnce() -> Option<u32>) -> Result<Option<u32>, Refused> {
+    fn or_outside<T>(run: impl FnOnce() -> T) -> Result<T, Refused> {
         caught(run).ok_or(Refused(22))
+    }
+
+    /// Our list, from runs that are longer by one; the rest of them stays.
+    fn listed(search: impl FnOnce(&mut [u32], &mut [u32]) -> Result<usize, Refused>, room: usize) -> Result<Vec<(u32, usize)>, Refused> {
+        let (mut values, mut lengths) = (vec![77; room + 1], vec![78; room]);
+        let count = search(&mut values, &mut lengths);
+        let kept = *count.as_ref().unwrap_or(&0);
+        assert!(values[kept..].iter().all(|&v| v == 77) && lengths[kept..].iter().all(|&l| l == 78));
+        count.map(|n| (0..n).map(|i| (values[i], lengths[i] as usize)).collect())
+    }
+
+    #[test]
+    fn prefix_search_of_the_plain_form() {
+        let mut random = Random::new("prefix search", 5);
+        let (mut asked, mut matches, mut outside) = (0, 0, 0);
+        for round in 0..300 {
+            let alphabet = [1, 2, 3, 5, 26, 300, 3000][round % 7];
+            let count = 1 + random.below(300) as usize;
+            let keys = keys(&mut random, alphabet, count);
+            let mut arrays = Arrays::of(&crawdad::Trie::from_keys(texts(&keys)).unwrap().serialize_to_vec());
+            for _ in 0..random.below(3) {
+                arrays.damage(&mut random);
+            }
+            let (trie, _) = crawdad::Trie::deserialize_from_slice(&arrays.trie_bytes());
+            for _ in 0..100 {
+                let mut query = query(&mut random, &keys);
+                query.extend(self::query(&mut random, &keys));
+                let theirs = or_outside(|| trie.common_prefix_search(query.iter().copied()).collect::<Vec<_>>());
+                let room = theirs.as_ref().map_or(9, Vec::len);
+                let ours = |room| listed(|v, l| plain(&arrays).common_prefix_search(&points(&query), v, l), room);
+                assert_eq!(ours(room), theirs, "{query:?} on {arrays:?}");
+                if let (Ok(list), 1..) = (&theirs, room) {
+                    assert_eq!(ours(room - 1), Err(Refused(23)), "{list:?}");
+                }
+                asked += 1;
+                matches += theirs.as_ref().map_or(0, Vec::len);
+                outside += usize::from(theirs.is_err());
+            }
+        }
+        println!("{asked} queries, {matches} matches, {outside} outside");
+        assert!(matches > asked / 2 && outside > 100);
     }
 
     #[test]

@@ -32,6 +32,11 @@ abbrev pub found_as : Result (Option ℕ) Refusal → GroatAnswer
 found_as (Ok value) = unpacked_as value
 found_as (Err r) = record { status = number r; value = 0 }
 
+-- the answer of prefix search: the place behind the matches in each run, or the refusal
+abbrev pub counted_as : Result ℕ Refusal → GroatPlace
+counted_as (Ok n) = record { status = 0; next = n }
+counted_as (Err r) = record { status = number r; next = 0 }
+
 abbrev pub order_number : Ordering → ℕ
 order_number Less = 0
 order_number Equal = 1

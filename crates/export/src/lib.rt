@@ -1,13 +1,14 @@
 // The C functions, over the public functions of the other crates, and nothing else. docs/C-API.md and host/groatlantern.h state each.
 #![tactic(auto)]
 
-ghost use Rattle.std.specs.Prelude.{◌≡◌, length};
+ghost use Rattle.std.specs.Prelude.{◌≡◌, length, min};
+ghost use Rattle.walk.specs.Query.{answer_of, values_after, lengths_after};
 ghost use Rattle.node.specs.Character.{is_character};
 ghost use Rattle.utils.specs.Packed.{pack_size, pack_answer, packed_into, unpack_answer};
 ghost use Rattle.utils.specs.Common.{common, ordering};
 ghost use Rattle.mapper.specs.Code.{code};
-ghost use Rattle.export.specs.Numbers.{placed, unpacked_as, found_as, common_parts, node_parts, flag};
-ghost use Rattle.trie.specs.Trie.{exact_answer};
+ghost use Rattle.export.specs.Numbers.{placed, unpacked_as, found_as, counted_as, common_parts, node_parts, flag};
+ghost use Rattle.trie.specs.Trie as Trie;
 ghost use Rattle.mptrie.specs.MpTrie as MpTrie;
 
 use node::{Node, Refusal};
@@ -26,7 +27,7 @@ pub struct GroatAnswer {
     pub value: u32,
 }
 
-/// A place in a lent run. status: 0 or NONE; next is 0 unless status is 0.
+/// A place in a lent run. status: 0, a refusal's number, or NONE; next is 0 unless status is 0.
 // A status beside a value, and a type of its own for 64 bits: the C interface.
 #[repr(C)]
 #[derive(Clone, Copy)]
@@ -96,6 +97,20 @@ impl From<Option<usize>> for GroatPlace {
             },
             None => GroatPlace {
                 status: NONE,
+                next: 0,
+            },
+        }
+    }
+}
+
+impl From<Result<usize, Refusal>> for GroatPlace {
+    ghost from_gives = { λ matches place. place ≡ counted_as matches };
+
+    fn from(matches: Result<usize, Refusal>) -> GroatPlace {
+        match matches {
+            Ok(next) => Some(next).into(),
+            Err(refused) => GroatPlace {
+                status: refused.number(),
                 next: 0,
             },
         }
@@ -199,7 +214,7 @@ pub extern "C" fn groat_trie_exact_match(
     check: &[u32],
     query: &[u32],
 ) -> GroatAnswer
-    ensures { result ≡ found_as (exact_answer table.now base.now check.now query.now) }
+    ensures { result ≡ found_as (Trie.exact_answer table.now base.now check.now query.now) }
 {
     trie::exact_match(table, base, check, query).into()
 }
@@ -218,4 +233,21 @@ pub extern "C" fn groat_mptrie_exact_match(
     ensures { result ≡ found_as (MpTrie.exact_answer table.now base.now check.now tails.now code_width value_width query.now) }
 {
     mptrie::exact_match(table, base, check, tails, code_width, value_width, query).into()
+}
+
+/// The keys that begin a query, in a dictionary of the plain form: their values and lengths.
+#[unsafe(no_mangle)]
+pub extern "C" fn groat_trie_common_prefix_search(
+    table: &[u32],
+    base: &[u32],
+    check: &[u32],
+    query: &[u32],
+    values: &mut [u32],
+    lengths: &mut [u32],
+) -> GroatPlace
+    ensures answer { result ≡ counted_as (answer_of (Trie.search_answer table.now base.now check.now query.now (min (length values.old) (length lengths.old)))) }
+    ensures values_after { values.new ≡ values_after (Trie.search_answer table.now base.now check.now query.now (min (length values.old) (length lengths.old))) values.old }
+    ensures lengths_after { lengths.new ≡ lengths_after (Trie.search_answer table.now base.now check.now query.now (min (length values.old) (length lengths.old))) lengths.old }
+{
+    trie::common_prefix_search(table, base, check, query, values, lengths).into()
 }

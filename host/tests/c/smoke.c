@@ -49,5 +49,11 @@ int main(void) {
     expect(found.status == 0 && found.value == 7, "a key has its value in its tail");
     found = groat_mptrie_exact_match(codes, 3, mp_base, 2, mp_check, 2, tails, 1, 1, 1, key, 1);
     expect(found.status == 22, "a value behind the tails is outside");
+    uint32_t values[2] = {9, 9}, lengths[2] = {9, 9};
+    place = groat_trie_common_prefix_search(codes, 3, base, 2, check, 2, key, 1, values, 2, lengths, 2);
+    expect(place.status == 0 && place.next == 1 && values[0] == 7 && lengths[0] == 1, "the key begins itself");
+    expect(values[1] == 9 && lengths[1] == 9, "and nothing else is written");
+    place = groat_trie_common_prefix_search(codes, 3, base, 2, check, 2, key, 1, values, 0, lengths, 2);
+    expect(place.status == 23 && place.next == 0, "there is no room for it");
     return failures != 0;
 }
