@@ -73,6 +73,15 @@ GroatAnswer groat_mptrie_exact_match(const uint32_t *table, size_t table_len, co
 /* The keys that begin a query, in a dictionary of the plain form, shortest first: their values and lengths, and in next how many; or refusal 12, 11, 2, 22 or 23. */
 GroatPlace groat_trie_common_prefix_search(const uint32_t *table, size_t table_len, const uint32_t *base, size_t base_len, const uint32_t *check, size_t check_len, const uint32_t *query, size_t query_len, uint32_t *values, size_t values_len, uint32_t *lengths, size_t lengths_len);
 
+/* How many elements a dictionary of the plain form has, in next; or refusal 12. */
+GroatPlace groat_trie_num_elems(const uint32_t *table, size_t table_len, const uint32_t *base, size_t base_len, const uint32_t *check, size_t check_len);
+
+/* How many of them are vacant, in next; or refusal 12. */
+GroatPlace groat_trie_num_vacants(const uint32_t *table, size_t table_len, const uint32_t *base, size_t base_len, const uint32_t *check, size_t check_len);
+
+/* How many bytes it takes when it is written, in next; or refusal 12. */
+GroatPlace groat_trie_io_bytes(const uint32_t *table, size_t table_len, const uint32_t *base, size_t base_len, const uint32_t *check, size_t check_len);
+
 #ifdef __cplusplus
 }
 #endif

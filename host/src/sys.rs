@@ -85,4 +85,28 @@ extern "C" {
         lengths: *mut u32,
         lengths_len: usize,
     ) -> GroatPlace;
+    pub fn groat_trie_num_elems(
+        table: *const u32,
+        table_len: usize,
+        base: *const u32,
+        base_len: usize,
+        check: *const u32,
+        check_len: usize,
+    ) -> GroatPlace;
+    pub fn groat_trie_num_vacants(
+        table: *const u32,
+        table_len: usize,
+        base: *const u32,
+        base_len: usize,
+        check: *const u32,
+        check_len: usize,
+    ) -> GroatPlace;
+    pub fn groat_trie_io_bytes(
+        table: *const u32,
+        table_len: usize,
+        base: *const u32,
+        base_len: usize,
+        check: *const u32,
+        check_len: usize,
+    ) -> GroatPlace;
 }

@@ -15,6 +15,14 @@ pub(crate) fn found(answer: sys::GroatAnswer) -> Result<Option<u32>, Refused> {
     }
 }
 
+/// What an answer that is a count says.
+pub(crate) fn counted(place: sys::GroatPlace) -> Result<usize, Refused> {
+    match place.status {
+        0 => Ok(place.next as usize),
+        number => Err(Refused(number)),
+    }
+}
+
 /// The arrays of a dictionary of the plain form. Any arrays may stand here: a lookup is total.
 #[derive(Clone, Copy, Debug)]
 pub struct Trie<'a> {
@@ -67,9 +75,33 @@ impl Trie<'_> {
                 lengths.len(),
             )
         };
-        match place.status {
-            0 => Ok(place.next as usize),
-            number => Err(Refused(number)),
-        }
+        counted(place)
+    }
+
+    /// How many elements there are.
+    pub fn num_elems(&self) -> Result<usize, Refused> {
+        let (table, base, check) = (self.table, self.base, self.check);
+        // SAFETY: each pointer and length are those of one slice, lent for the call.
+        counted(unsafe {
+            sys::groat_trie_num_elems(table.as_ptr(), table.len(), base.as_ptr(), base.len(), check.as_ptr(), check.len())
+        })
+    }
+
+    /// How many elements are vacant.
+    pub fn num_vacants(&self) -> Result<usize, Refused> {
+        let (table, base, check) = (self.table, self.base, self.check);
+        // SAFETY: each pointer and length are those of one slice, lent for the call.
+        counted(unsafe {
+            sys::groat_trie_num_vacants(table.as_ptr(), table.len(), base.as_ptr(), base.len(), check.as_ptr(), check.len())
+        })
+    }
+
+    /// How many bytes the dictionary takes when it is written.
+    pub fn io_bytes(&self) -> Result<usize, Refused> {
+        let (table, base, check) = (self.table, self.base, self.check);
+        // SAFETY: each pointer and length are those of one slice, lent for the call.
+        counted(unsafe {
+            sys::groat_trie_io_bytes(table.as_ptr(), table.len(), base.as_ptr(), base.len(), check.as_ptr(), check.len())
+        })
     }
 }

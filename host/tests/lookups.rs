@@ -78,6 +78,9 @@ mod against_the_original {
             let trie = crawdad::Trie::from_keys(texts(&keys)).unwrap();
             let mptrie = crawdad::MpTrie::from_keys(texts(&keys)).unwrap();
             let (arrays, mp_arrays) = (Arrays::of(&trie.serialize_to_vec()), Arrays::of(&mptrie.serialize_to_vec()));
+            assert_eq!(plain(&arrays).num_elems(), Ok(trie.num_elems()));
+            assert_eq!(plain(&arrays).num_vacants(), Ok(trie.num_vacants()));
+            assert_eq!(plain(&arrays).io_bytes(), Ok(trie.io_bytes()));
             for _ in 0..200 {
                 let query = query(&mut random, &keys);
                 let theirs = trie.exact_match(query.iter().copied());
@@ -184,6 +187,14 @@ fn refusals_come_in_their_order() {
     let long = vec![0xffff_ffff; 1_114_113];
     assert_eq!(Trie { table: &long[1..], ..plain }.exact_match(&[0x61]), Ok(None));
     assert_eq!(Trie { table: &long, ..plain }.exact_match(&[0x61]), Err(Refused(12)));
+    assert_eq!(Trie { table: &long, ..plain }.io_bytes(), Err(Refused(12)));
+    assert_eq!(Trie { table: &long[1..], ..plain }.io_bytes(), Ok(4 * 1_114_112 + 8 + 8 + 4));
+    let many = vec![0x7fff_ffff; 16_777_217];
+    let full = Trie { table: &table, base: &many[1..], check: &many };
+    assert_eq!((full.num_elems(), full.num_vacants()), (Ok(16_777_216), Ok(16_777_216)));
+    let over = Trie { base: &many, ..full };
+    assert_eq!((over.num_elems(), over.num_vacants(), over.io_bytes()), (Err(Refused(12)), Err(Refused(12)), Err(Refused(12))));
+    assert_eq!(over.exact_match(&[0x61]), Err(Refused(12)));
     let none = Trie { table: &table, base: &[], check: &check };
     assert_eq!(none.exact_match(&[]), Err(Refused(22)));
     assert_eq!(none.exact_match(&[0x61]), Ok(None));

@@ -2,7 +2,8 @@
 #![tactic(auto)]
 
 ghost use Rattle.std.specs.Prelude.{◌≡◌, length, min};
-ghost use Rattle.walk.specs.Query.{answer_of, values_after, lengths_after};
+ghost use Rattle.walk.specs.Walk.{elems, vacants};
+ghost use Rattle.walk.specs.Query.{answer_of, values_after, lengths_after, counted};
 ghost use Rattle.node.specs.Character.{is_character};
 ghost use Rattle.utils.specs.Packed.{pack_size, pack_answer, packed_into, unpack_answer};
 ghost use Rattle.utils.specs.Common.{common, ordering};
@@ -250,4 +251,28 @@ pub extern "C" fn groat_trie_common_prefix_search(
     ensures lengths_after { lengths.new ≡ lengths_after (Trie.search_answer table.now base.now check.now query.now (min (length values.old) (length lengths.old))) lengths.old }
 {
     trie::common_prefix_search(table, base, check, query, values, lengths).into()
+}
+
+/// How many elements a dictionary of the plain form has.
+#[unsafe(no_mangle)]
+pub extern "C" fn groat_trie_num_elems(table: &[u32], base: &[u32], check: &[u32]) -> GroatPlace
+    ensures { result ≡ counted_as (counted (elems base.now check.now) (length table.now) 0 (elems base.now check.now)) }
+{
+    trie::num_elems(table, base, check).into()
+}
+
+/// How many of them are vacant.
+#[unsafe(no_mangle)]
+pub extern "C" fn groat_trie_num_vacants(table: &[u32], base: &[u32], check: &[u32]) -> GroatPlace
+    ensures { result ≡ counted_as (counted (elems base.now check.now) (length table.now) 0 (vacants base.now check.now)) }
+{
+    trie::num_vacants(table, base, check).into()
+}
+
+/// How many bytes it takes when it is written.
+#[unsafe(no_mangle)]
+pub extern "C" fn groat_trie_io_bytes(table: &[u32], base: &[u32], check: &[u32]) -> GroatPlace
+    ensures { result ≡ counted_as (counted (elems base.now check.now) (length table.now) 0 (Trie.bytes table.now base.now check.now)) }
+{
+    trie::io_bytes(table, base, check).into()
 }

@@ -1,3 +1,4 @@
 pub mod Exact
 pub mod Prefixes
 pub mod Short
+pub mod Evidence

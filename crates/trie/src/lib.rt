@@ -5,12 +5,12 @@ ghost use Rattle.std.specs.Prelude.{◌≡◌, ◌≤◌, length, min};
 ghost use Rattle.std.specs.Result.{IsOkAnd};
 ghost use Rattle.node.specs.Limits.{max_query};
 ghost use Rattle.mapper.specs.Code.{find};
-ghost use Rattle.walk.specs.Walk.{elems, exact, prefixes};
-ghost use Rattle.walk.specs.Query.{answer_of, values_after, lengths_after};
-ghost use Rattle.trie.specs.Trie.{exact_answer, search_answer};
+ghost use Rattle.walk.specs.Walk.{elems, exact, prefixes, vacants};
+ghost use Rattle.walk.specs.Query.{answer_of, values_after, lengths_after, counted};
+ghost use Rattle.trie.specs.Trie.{exact_answer, search_answer, bytes};
 
-use node::{Refusal, Sizes};
-use walk::{query_refusal, settle, step};
+use node::{Node, Refusal, Sizes};
+use walk::{query_refusal, settle, step, vacants};
 
 /// The value of a key, if the dictionary has it.
 pub fn exact_match(
@@ -139,4 +139,37 @@ fn write(
         }
         node_idx = child_idx;
     }
+}
+
+/// How many elements there are.
+pub fn num_elems(table: &[u32], base: &[u32], check: &[u32]) -> Result<usize, Refusal>
+    ensures { result ≡ counted (elems base.now check.now) (length table.now) 0 (elems base.now check.now) }
+{
+    let sizes = sizes(table, base, check);
+    if sizes.arrays_over() {
+        return Err(Refusal::Limit);
+    }
+    Ok(sizes.elems)
+}
+
+/// How many elements are vacant.
+pub fn num_vacants(table: &[u32], base: &[u32], check: &[u32]) -> Result<usize, Refusal>
+    ensures { result ≡ counted (elems base.now check.now) (length table.now) 0 (vacants base.now check.now) }
+{
+    if sizes(table, base, check).arrays_over() {
+        return Err(Refusal::Limit);
+    }
+    Ok(vacants(base, check))
+}
+
+/// How many bytes the dictionary takes when it is written.
+#[tactic(auto, unfolding(node::specs::Limits::arrays_over))]
+pub fn io_bytes(table: &[u32], base: &[u32], check: &[u32]) -> Result<usize, Refusal>
+    ensures { result ≡ counted (elems base.now check.now) (length table.now) 0 (bytes table.now base.now check.now) }
+{
+    let sizes = sizes(table, base, check);
+    if sizes.arrays_over() {
+        return Err(Refusal::Limit);
+    }
+    Ok(4 * sizes.table + 8 + Node::io_bytes() * sizes.elems + 4)
 }

@@ -4,7 +4,7 @@ use Rattle.std.specs.Option.{option_or}
 use Rattle.node.specs.declared.Refusal.{Refusal}
 use Rattle.node.specs.declared.Refusal.TheVariants.{Limit, MatchRoom}
 use Rattle.node.specs.Character.{character_refusal}
-use Rattle.node.specs.Limits.{query_over}
+use Rattle.node.specs.Limits.{arrays_over, query_over}
 
 -- the refusal, 11 or 2, of the first character of a query that is refused by itself
 unfoldable pub offence : List ℕ → Option Refusal
@@ -19,6 +19,10 @@ query_refusal elems table tails query = if query_over elems table tails (length 
 abbrev pub unless : {A : Type 0} → Option Refusal → Result A Refusal → Result A Refusal
 unless None found = found
 unless (Some r) found = Err r
+
+-- a count of the arrays, unless a limit is passed
+abbrev pub counted : ℕ → ℕ → ℕ → ℕ → Result ℕ Refusal
+counted elems table tails n = if arrays_over elems table tails then Err Limit else Ok n
 
 -- ---- common-prefix search
 

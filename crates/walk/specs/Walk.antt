@@ -1,9 +1,10 @@
 -- The walk of a query down the elements, read by read as src/trie.rs and src/mptrie.rs do it, over how a code is found (f). N is how many elements are lent:
 -- the length of the shorter of base and check. Assumes nothing.
-use Rattle.std.specs.Prelude.{if◌then◌else◌, List, [], ◌∷◌, ℕ, suc, min, Option, Some, None, Result, Ok, Err, length, slice_index, nat_lt, ◌==◌}
+use Rattle.std.specs.Prelude.{if◌then◌else◌, List, [], ◌∷◌, ℕ, suc, min, Option, Some, None, Result, Ok, Err, length, slice_index, count_by, nat_lt, ◌==◌}
+use Rattle.std.specs.List.{zip}
 use Rattle.std.specs.Int.Bits.{bit_xor}
 use Rattle.node.specs.Constants.{end_code}
-use Rattle.node.specs.Element.{offset, top, base_of, parent, leaf}
+use Rattle.node.specs.Element.{offset, top, base_of, parent, leaf, vacant_pair}
 use Rattle.node.specs.declared.Node.{Node}
 use Rattle.node.specs.declared.Refusal.{Refusal}
 use Rattle.node.specs.declared.Refusal.TheVariants.{Outside}
@@ -15,6 +16,10 @@ elems base check = min (length base) (length check)
 -- element e, if it is inside both runs
 abbrev pub element : List ℕ → List ℕ → ℕ → Option Node
 element base check e = if nat_lt e (elems base check) then Some (record { base = slice_index base e; check = slice_index check e }) else None
+
+-- how many elements have base and check `OFFSET_MASK`, element 0 among them, as the Rust counts
+abbrev pub vacants : List ℕ → List ℕ → ℕ
+vacants base check = count_by (λ (e : ℕ × ℕ). vacant_pair e.0 e.1) (zip base check)
 
 -- What a step, a walk or a read comes to: `Ok (Some x)`, x is there; `Ok None`, nothing is; `Err Outside`, it would read outside what is lent.
 -- Go on from what is there. Where nothing is, the answer is `none`.

@@ -3,7 +3,7 @@
 
 ghost use Rattle.std.specs.Prelude.{◌≡◌, ◌<◌, IsTrue, All, drop};
 ghost use Rattle.mapper.specs.Code.{find};
-ghost use Rattle.walk.specs.Walk.{elems, element, child, step, end_value, settle};
+ghost use Rattle.walk.specs.Walk.{elems, element, vacants, child, step, end_value, settle};
 ghost use Rattle.walk.specs.Tail.{tail_at, tail_match, tail_value};
 ghost use Rattle.walk.specs.Query.{offence, query_refusal};
 
@@ -20,6 +20,22 @@ pub fn node_at(base: &[u32], check: &[u32], node_idx: u32) -> Option<Node>
         base: *base.get(e)?,
         check: *check.get(e)?,
     })
+}
+
+/// How many elements are vacant.
+pub fn vacants(base: &[u32], check: &[u32]) -> usize
+    ensures { result ≡ vacants base.now check.now }
+{
+    base.iter()
+        .zip(check)
+        .filter(|(b, c)| {
+            Node {
+                base: **b,
+                check: **c,
+            }
+            .is_vacant()
+        })
+        .count()
 }
 
 /// The child of an element by a code: `get_child_idx` of both tries.

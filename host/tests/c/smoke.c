@@ -55,5 +55,11 @@ int main(void) {
     expect(values[1] == 9 && lengths[1] == 9, "and nothing else is written");
     place = groat_trie_common_prefix_search(codes, 3, base, 2, check, 2, key, 1, values, 0, lengths, 2);
     expect(place.status == 23 && place.next == 0, "there is no room for it");
+    place = groat_trie_num_elems(codes, 3, base, 2, check, 1);
+    expect(place.status == 0 && place.next == 1, "the shorter run counts");
+    place = groat_trie_num_vacants(codes, 3, base, 2, check, 2);
+    expect(place.status == 0 && place.next == 0, "none is vacant");
+    place = groat_trie_io_bytes(codes, 3, base, 2, check, 2);
+    expect(place.status == 0 && place.next == 40, "the size of the bytes");
     return failures != 0;
 }
