@@ -82,6 +82,9 @@ GroatPlace groat_trie_num_vacants(const uint32_t *table, size_t table_len, const
 /* How many bytes it takes when it is written, in next; or refusal 12. */
 GroatPlace groat_trie_io_bytes(const uint32_t *table, size_t table_len, const uint32_t *base, size_t base_len, const uint32_t *check, size_t check_len);
 
+/* The keys that begin a query, in a dictionary of the minimal-prefix form, shortest first: their values and lengths, and in next how many; or refusal 12, 11, 2, 22 or 23. */
+GroatPlace groat_mptrie_common_prefix_search(const uint32_t *table, size_t table_len, const uint32_t *base, size_t base_len, const uint32_t *check, size_t check_len, const uint8_t *tails, size_t tails_len, uint8_t code_width, uint8_t value_width, const uint32_t *query, size_t query_len, uint32_t *values, size_t values_len, uint32_t *lengths, size_t lengths_len);
+
 #ifdef __cplusplus
 }
 #endif

@@ -50,15 +50,24 @@ mod against_the_original {
         trie.exact_match(query.iter().copied())
     }
 
-    #[inline(never)]
-    fn prefixes(trie: &crawdad::Trie, query: &[char], values: &mut [u32], lengths: &mut [u32]) -> usize {
+    fn keep(matches: impl Iterator<Item = (u32, usize)>, values: &mut [u32], lengths: &mut [u32]) -> usize {
         let mut n = 0;
-        for (value, length) in trie.common_prefix_search(query.iter().copied()) {
+        for (value, length) in matches {
             values[n] = value;
             lengths[n] = length as u32;
             n += 1;
         }
         n
+    }
+
+    #[inline(never)]
+    fn prefixes(trie: &crawdad::Trie, query: &[char], values: &mut [u32], lengths: &mut [u32]) -> usize {
+        keep(trie.common_prefix_search(query.iter().copied()), values, lengths)
+    }
+
+    #[inline(never)]
+    fn prefixes_mp(trie: &crawdad::MpTrie, query: &[char], values: &mut [u32], lengths: &mut [u32]) -> usize {
+        keep(trie.common_prefix_search(query.iter().copied()), values, lengths)
     }
 
     pub fn run() {
@@ -105,6 +114,12 @@ mod against_the_original {
                 queries.len(),
                 || numbers.iter().for_each(|q| _ = black_box(ours.common_prefix_search(q, &mut values, &mut lengths))),
                 || queries.iter().for_each(|q| _ = black_box(prefixes(&trie, q, &mut their_values, &mut their_lengths))),
+            );
+            beside(
+                &format!("prefix search, minimal-prefix, {what}"),
+                queries.len(),
+                || numbers.iter().for_each(|q| _ = black_box(minimal.common_prefix_search(q, &mut values, &mut lengths))),
+                || queries.iter().for_each(|q| _ = black_box(prefixes_mp(&mptrie, q, &mut their_values, &mut their_lengths))),
             );
             beside(
                 &format!("exact match, minimal-prefix, {what}"),

@@ -109,4 +109,22 @@ extern "C" {
         check: *const u32,
         check_len: usize,
     ) -> GroatPlace;
+    pub fn groat_mptrie_common_prefix_search(
+        table: *const u32,
+        table_len: usize,
+        base: *const u32,
+        base_len: usize,
+        check: *const u32,
+        check_len: usize,
+        tails: *const u8,
+        tails_len: usize,
+        code_width: u8,
+        value_width: u8,
+        query: *const u32,
+        query_len: usize,
+        values: *mut u32,
+        values_len: usize,
+        lengths: *mut u32,
+        lengths_len: usize,
+    ) -> GroatPlace;
 }

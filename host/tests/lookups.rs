@@ -110,35 +110,50 @@ mod against_the_original {
     }
 
     #[test]
-    fn prefix_search_of_the_plain_form() {
+    fn prefix_search_of_both_forms() {
         let mut random = Random::new("prefix search", 5);
-        let (mut asked, mut matches, mut outside) = (0, 0, 0);
+        let (mut asked, mut matches, mut outside) = (0, [0; 2], [0; 2]);
         for round in 0..300 {
             let alphabet = [1, 2, 3, 5, 26, 300, 3000][round % 7];
             let count = 1 + random.below(300) as usize;
             let keys = keys(&mut random, alphabet, count);
             let mut arrays = Arrays::of(&crawdad::Trie::from_keys(texts(&keys)).unwrap().serialize_to_vec());
+            let mut mp_arrays = Arrays::of(&crawdad::MpTrie::from_keys(texts(&keys)).unwrap().serialize_to_vec());
             for _ in 0..random.below(3) {
                 arrays.damage(&mut random);
+                match random.below(2) {
+                    0 => mp_arrays.damage(&mut random),
+                    _ => mp_arrays.damage_tails(&mut random),
+                }
             }
             let (trie, _) = crawdad::Trie::deserialize_from_slice(&arrays.trie_bytes());
+            let (mptrie, _) = crawdad::MpTrie::deserialize_from_slice(&mp_arrays.mptrie_bytes());
             for _ in 0..100 {
                 let mut query = query(&mut random, &keys);
                 query.extend(self::query(&mut random, &keys));
-                let theirs = or_outside(|| trie.common_prefix_search(query.iter().copied()).collect::<Vec<_>>());
-                let room = theirs.as_ref().map_or(9, Vec::len);
-                let ours = |room| listed(|v, l| plain(&arrays).common_prefix_search(&points(&query), v, l), room);
-                assert_eq!(ours(room), theirs, "{query:?} on {arrays:?}");
-                if let (Ok(list), 1..) = (&theirs, room) {
-                    assert_eq!(ours(room - 1), Err(Refused(23)), "{list:?}");
+                let numbers = points(&query);
+                let theirs = [
+                    or_outside(|| trie.common_prefix_search(query.iter().copied()).collect::<Vec<_>>()),
+                    or_outside(|| mptrie.common_prefix_search(query.iter().copied()).collect()),
+                ];
+                for (form, theirs) in theirs.iter().enumerate() {
+                    let ours = |room| match form {
+                        0 => listed(|v, l| plain(&arrays).common_prefix_search(&numbers, v, l), room),
+                        _ => listed(|v, l| minimal(&mp_arrays).common_prefix_search(&numbers, v, l), room),
+                    };
+                    let room = theirs.as_ref().map_or(9, Vec::len);
+                    assert_eq!(&ours(room), theirs, "form {form}, {query:?} on {arrays:?} or {mp_arrays:?}");
+                    if let (Ok(list), 1..) = (theirs, room) {
+                        assert_eq!(ours(room - 1), Err(Refused(23)), "{list:?}");
+                    }
+                    matches[form] += theirs.as_ref().map_or(0, Vec::len);
+                    outside[form] += usize::from(theirs.is_err());
                 }
                 asked += 1;
-                matches += theirs.as_ref().map_or(0, Vec::len);
-                outside += usize::from(theirs.is_err());
             }
         }
-        println!("{asked} queries, {matches} matches, {outside} outside");
-        assert!(matches > asked / 2 && outside > 100);
+        println!("{asked} queries of each form, {matches:?} matches, {outside:?} outside");
+        assert!(matches.iter().all(|&m| m > asked / 2) && outside.iter().all(|&o| o > 100));
     }
 
     #[test]

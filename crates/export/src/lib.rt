@@ -276,3 +276,34 @@ pub extern "C" fn groat_trie_io_bytes(table: &[u32], base: &[u32], check: &[u32]
 {
     trie::io_bytes(table, base, check).into()
 }
+
+/// The keys that begin a query, in a dictionary of the minimal-prefix form: their values and lengths.
+#[unsafe(no_mangle)]
+pub extern "C" fn groat_mptrie_common_prefix_search(
+    table: &[u32],
+    base: &[u32],
+    check: &[u32],
+    tails: &[u8],
+    code_width: u8,
+    value_width: u8,
+    query: &[u32],
+    values: &mut [u32],
+    lengths: &mut [u32],
+) -> GroatPlace
+    ensures answer { result ≡ counted_as (answer_of (MpTrie.search_answer table.now base.now check.now tails.now code_width value_width query.now (min (length values.old) (length lengths.old)))) }
+    ensures values_after { values.new ≡ values_after (MpTrie.search_answer table.now base.now check.now tails.now code_width value_width query.now (min (length values.old) (length lengths.old))) values.old }
+    ensures lengths_after { lengths.new ≡ lengths_after (MpTrie.search_answer table.now base.now check.now tails.now code_width value_width query.now (min (length values.old) (length lengths.old))) lengths.old }
+{
+    let found = mptrie::common_prefix_search(
+        table,
+        base,
+        check,
+        tails,
+        code_width,
+        value_width,
+        query,
+        values,
+        lengths,
+    );
+    found.into()
+}

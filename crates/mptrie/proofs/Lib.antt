@@ -1,1 +1,3 @@
+pub mod Arrival
+pub mod Prefixes
 pub mod Stroll

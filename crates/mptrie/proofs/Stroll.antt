@@ -6,6 +6,7 @@ use Rattle.node.specs.declared.Refusal.TheVariants.{Outside}
 use Rattle.node.specs.declared.Node.{Node}
 use Rattle.node.specs.Element.{offset, top, leaf, base_of}
 use Rattle.walk.specs.Walk.{elems, element, go_on, step, end_value, settle_end}
+use Rattle.walk.proofs.Elements.{not_there, there}
 use Rattle.walk.specs.Tail.{tail_at, settle_tail, stroll, exact_mp}
 
 module _ (f : ℕ → Option ℕ) (base check tails : List ℕ) (cw vw : ℕ) (q : List ℕ) where
@@ -30,30 +31,11 @@ module _ (f : ℕ → Option ℕ) (base check tails : List ℕ) (cw vw : ℕ) (q
 
   module _ (p i : ℕ) (s : Stands p i) where
     pub outside : element base check p ≡ None → Err Outside ≡ exact_mp f base check tails cw vw (elems base check) q
-    outside e = sym (s ∙ by_place p (drop i q) ∙ by (nat_lt p (elems base check)) refl)
-      where
-        by : (b : Bool) → nat_lt p (elems base check) ≡ b
-            → (if nat_lt p (elems base check) then (if leaf base p then settle_tail f base tails cw vw p (drop i q) else goes p (drop i q)) else Err Outside) ≡ Err Outside
-        by false h = rw h refl
-        by true h = absurd (let x : Some (record { base = get_or base p 0; check = get_or check p 0 }) ≡ None = rw h at e in cc)
+    outside e = sym (s ∙ by_place p (drop i q) ∙ rw (not_there base check p e) refl)
 
     module _ (node : Node) (e : element base check p ≡ Some node) where
-      abbrev base_in : Option Node → ℕ
-      base_in None = 0
-      base_in (Some n) = n.base
-
-      abbrev check_in : Option Node → ℕ
-      check_in None = 0
-      check_in (Some n) = n.check
-
       inside : (nat_lt p (elems base check) ≡ true) × (node.base ≡ get_or base p 0) × (node.check ≡ get_or check p 0)
-      inside = by (nat_lt p (elems base check)) refl
-        where
-          by : (b : Bool) → nat_lt p (elems base check) ≡ b → (nat_lt p (elems base check) ≡ true) × (node.base ≡ get_or base p 0) × (node.check ≡ get_or check p 0)
-          by true h =
-              let x : Some (record { base = get_or base p 0; check = get_or check p 0 }) ≡ Some node = rw h at e in
-              (h, sym (ap base_in x), sym (ap check_in x))
-          by false h = absurd (let x : None ≡ Some node = rw h at e in cc)
+      inside = there base check p node e
 
       by_leaf : exact_mp f base check tails cw vw (elems base check) q ≡ (if leaf base p then settle_tail f base tails cw vw p (drop i q) else goes p (drop i q))
       by_leaf = s ∙ by_place p (drop i q) ∙ rw inside.0 refl

@@ -1,4 +1,3 @@
 pub mod Exact
 pub mod Prefixes
-pub mod Short
 pub mod Evidence

@@ -60,7 +60,7 @@ fn walk_down(
 }
 
 /// Writes the values and the lengths of the keys that begin a query, shortest first, and answers how many.
-#[tactic(auto, using(crate::proofs::Short::short))]
+#[tactic(auto, using(walk::proofs::Short::short))]
 pub fn common_prefix_search(
     table: &[u32],
     base: &[u32],

@@ -10,7 +10,7 @@ use Rattle.walk.specs.Walk.{go_on}
 use Rattle.walk.specs.Tail.{tail_match, tail_value}
 
 -- what a read that gave nothing, or x, says
-read_none : (t : List ℕ) (w : ℕ) → unpack_answer t w ≡ None → readable t w ≡ false
+pub read_none : (t : List ℕ) (w : ℕ) → unpack_answer t w ≡ None → readable t w ≡ false
 unfolding unpack_answer
 read_none t w e = by (readable t w) refl
   where
@@ -18,7 +18,7 @@ read_none t w e = by (readable t w) refl
     by false r = r
     by true r = absurd (let h : Some (unpacked t w) ≡ None = rw r at e in cc)
 
-read_some : (t : List ℕ) (w x : ℕ) → unpack_answer t w ≡ Some x → (readable t w ≡ true) × (x ≡ unpacked t w)
+pub read_some : (t : List ℕ) (w x : ℕ) → unpack_answer t w ≡ Some x → (readable t w ≡ true) × (x ≡ unpacked t w)
 unfolding unpack_answer
 read_some t w x e = by (readable t w) refl
   where

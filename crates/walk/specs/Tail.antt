@@ -53,6 +53,12 @@ unfoldable pub tail_scan_at : (ℕ → Option ℕ) → ℕ → ℕ → List ℕ 
 tail_scan_at f cw vw [] l q = Err Outside
 tail_scan_at f cw vw (n ∷ t) l q = tail_scan f cw vw t n l q
 
+-- the match of a list of at most one
+abbrev pub one_of : Result (List (ℕ × ℕ)) Refusal → Result (Option (ℕ × ℕ)) Refusal
+one_of (Ok []) = Ok None
+one_of (Ok (m ∷ l)) = Ok (Some m)
+one_of (Err r) = Err r
+
 -- a leaf's tail against what follows in the query
 unfoldable pub leaf_scan : (ℕ → Option ℕ) → List ℕ → List ℕ → ℕ → ℕ → ℕ → ℕ → List ℕ → Result (List (ℕ × ℕ)) Refusal
 leaf_scan f base tails cw vw e l q = tail_scan_at f cw vw (drop (base_of base e) tails) l q

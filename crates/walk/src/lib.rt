@@ -1,10 +1,10 @@
 // What both forms of trie share: an element, the step to a child, where a walk ends, and a query's refusals.
 #![tactic(auto)]
 
-ghost use Rattle.std.specs.Prelude.{◌≡◌, ◌<◌, IsTrue, All, drop};
+ghost use Rattle.std.specs.Prelude.{◌≡◌, ◌<◌, ◌≤◌, ◌+◌, IsTrue, All, drop};
 ghost use Rattle.mapper.specs.Code.{find};
 ghost use Rattle.walk.specs.Walk.{elems, element, vacants, child, step, end_value, settle};
-ghost use Rattle.walk.specs.Tail.{tail_at, tail_match, tail_value};
+ghost use Rattle.walk.specs.Tail.{tail_at, tail_match, tail_value, tail_scan, tail_scan_at, one_of};
 ghost use Rattle.walk.specs.Query.{offence, query_refusal};
 
 use mapper::code_of;
@@ -205,6 +205,77 @@ fn tail_value(tail: &[u8], value_width: u8, query: &[u32]) -> Result<Option<u32>
         Some(value) => Ok(Some(value)),
         None => Err(Refusal::Outside),
     }
+}
+
+/// A leaf's tail against the start of what is left of a query: the value, and how many characters the tail takes, if it matches.
+#[tactic(auto, unfolding(crate::specs::Tail::tail_scan_at))]
+pub fn scan_tail(
+    table: &[u32],
+    tails: &[u8],
+    code_width: u8,
+    value_width: u8,
+    tail_pos: u32,
+    query: &[u32],
+) -> Result<Option<(u32, usize)>, Refusal>
+    ensures { result ≡ one_of (tail_scan_at (find table.now) code_width value_width (drop tail_pos tails.now) 0 query.now) }
+{
+    let start = tail_pos as usize; // no `From`, and a `try_from` only adds an `unwrap`
+    if tails.len() <= start {
+        return Err(Refusal::Outside);
+    }
+    scan_codes(
+        table,
+        &tails[start + 1..],
+        code_width,
+        value_width,
+        tails[start],
+        0,
+        query,
+    )
+}
+
+// The codes at the start of a tail, of which that many are left, against what is left of a query behind the characters that are taken.
+#[tactic(auto, using(crate::proofs::Scans::no_code_left, crate::proofs::Scans::unread_value, crate::proofs::Scans::unread, crate::proofs::Scans::ends, crate::proofs::Scans::unknown, crate::proofs::Scans::differs, crate::proofs::Scans::alike, crate::proofs::Tails::inside))]
+fn scan_codes(
+    table: &[u32],
+    tail: &[u8],
+    code_width: u8,
+    value_width: u8,
+    left: u8,
+    taken: u8,
+    query: &[u32],
+) -> Result<Option<(u32, usize)>, Refusal>
+    requires { taken + left ≤ 255 }
+    ensures { result ≡ one_of (tail_scan (find table.now) code_width value_width tail.now left taken query.now) }
+{
+    if left == 0 {
+        let Some(value) = unpack_u32(tail, value_width) else {
+            return Err(Refusal::Outside);
+        };
+        return Ok(Some((value, usize::from(taken))));
+    }
+    let Some(code) = unpack_u32(tail, code_width) else {
+        return Err(Refusal::Outside);
+    };
+    if query.is_empty() {
+        return Ok(None);
+    }
+    let Some(found) = code_of(table, query[0]) else {
+        return Ok(None);
+    };
+    if found != code {
+        return Ok(None);
+    }
+    let w = usize::from(code_width);
+    scan_codes(
+        table,
+        &tail[w..],
+        code_width,
+        value_width,
+        left - 1,
+        taken + 1,
+        &query[1..],
+    )
 }
 
 // Are all characters below D800?

@@ -61,5 +61,8 @@ int main(void) {
     expect(place.status == 0 && place.next == 0, "none is vacant");
     place = groat_trie_io_bytes(codes, 3, base, 2, check, 2);
     expect(place.status == 0 && place.next == 40, "the size of the bytes");
+    values[0] = lengths[0] = 9;
+    place = groat_mptrie_common_prefix_search(codes, 3, mp_base, 2, mp_check, 2, tails, 2, 1, 1, key, 1, values, 2, lengths, 2);
+    expect(place.status == 0 && place.next == 1 && values[0] == 7 && lengths[0] == 1, "the key begins itself there too");
     return failures != 0;
 }

@@ -1,12 +1,13 @@
 use Rattle.std.proofs.Common.{Ok, ◌∙◌, sym, ap}
-use Rattle.trie.proofs.Prefixes.{values_at_root, lengths_at_root, write_as, write_matched, write_passed, write_missed, write_left, write_unread, write_ended, room}
+use Rattle.walk.proofs.Matches.{written_as, values_lent, lengths_lent}
+use Rattle.trie.proofs.Prefixes.{all, write_as, write_matched, write_passed, write_missed, write_left, write_unread, write_ended, room}
 use Rattle.trie.proofs.write.Goals as goal
 use Rattle.trie.proofs.write.Goals.{in-Some-found, in_default-found}
 
 pub loop-i-init : goal.loop-i-init
 loop-i-init c = record {
-  values = values_at_root _ _ _ _ c.args.query.now _ _ c.requires.fits;
-  lengths = lengths_at_root _ _ _ _ c.args.query.now _ _ c.requires.fits;
+  values = record { run = written_as (values_lent _ _ _ c.requires.fits) (all _ _ _ _ c.args.query.now) };
+  lengths = record { run = written_as (lengths_lent _ _ _ c.requires.fits) (all _ _ _ _ c.args.query.now) };
 }
 
 -- the step leads outside, which it cannot

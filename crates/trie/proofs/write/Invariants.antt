@@ -3,7 +3,7 @@ use Rattle.node.specs.declared.Refusal.{Refusal}
 use Rattle.mapper.specs.Code.{find}
 use Rattle.walk.specs.Walk.{elems, prefixes}
 use Rattle.walk.specs.Query.{values_after, lengths_after}
-use Rattle.trie.proofs.Prefixes.{Written}
+use Rattle.trie.proofs.Prefixes.{Writes}
 use Rattle.trie.proofs.write.Given as goal
 
 -- each run is written as far as the search has come
@@ -12,6 +12,6 @@ invariant-loop-i l =
     let N : ℕ = elems l.base l.check in
     let found : Result (List (ℕ × ℕ)) Refusal = prefixes (find l.table) l.base l.check N l.query in
     record {
-      values : Written (find l.table) l.base l.check N l.query (λ m. m.0) (values_after found l.initial.values) l.n l.node_idx l.i l.values;
-      lengths : Written (find l.table) l.base l.check N l.query (λ m. m.1) (lengths_after found l.initial.lengths) l.n l.node_idx l.i l.lengths;
+      values : Writes (find l.table) l.base l.check N l.query (λ m. m.0) (values_after found l.initial.values) l.n l.node_idx l.i l.values;
+      lengths : Writes (find l.table) l.base l.check N l.query (λ m. m.1) (lengths_after found l.initial.lengths) l.n l.node_idx l.i l.lengths;
     }
