@@ -155,19 +155,19 @@ pub fn settle_tail(
     )
 }
 
-// The rest of a query against the codes at the start of a tail, and the value behind them.
+// The rest of a query against the codes that are left at the start of a tail, and the value behind them.
 #[tactic(auto, using(crate::proofs::Tails::no_code_left, crate::proofs::Tails::unread, crate::proofs::Tails::ends, crate::proofs::Tails::unknown, crate::proofs::Tails::differs, crate::proofs::Tails::alike, crate::proofs::Tails::inside))]
 fn tail_match(
     table: &[u32],
     tail: &[u8],
     code_width: u8,
     value_width: u8,
-    length: u8,
+    left: u8,
     query: &[u32],
 ) -> Result<Option<u32>, Refusal>
-    ensures { result ≡ tail_match (find table.now) code_width value_width tail.now length query.now }
+    ensures { result ≡ tail_match (find table.now) code_width value_width tail.now left query.now }
 {
-    if length == 0 {
+    if left == 0 {
         return tail_value(tail, value_width, query);
     }
     let Some(code) = unpack_u32(tail, code_width) else {
@@ -188,7 +188,7 @@ fn tail_match(
         &tail[w..],
         code_width,
         value_width,
-        length - 1,
+        left - 1,
         &query[1..],
     )
 }
