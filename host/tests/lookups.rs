@@ -156,6 +156,24 @@ mod against_the_original {
         assert!(matches.iter().all(|&m| m > asked / 2) && outside.iter().all(|&o| o > 100));
     }
 
+    /// docs/DIFFERENCES.md: what the original answers where a query is refused here, or where a list has ended.
+    #[test]
+    fn where_the_original_differs() {
+        let keys = ["世界", "世界中", "国民"];
+        let trie = crawdad::Trie::from_keys(keys).unwrap();
+        let arrays = Arrays::of(&trie.serialize_to_vec());
+        let query: Vec<char> = "世界\u{ffff}".chars().collect();
+        assert_eq!(trie.exact_match(query.iter().copied()), Some(0));
+        assert_eq!(plain(&arrays).exact_match(&points(&query)), Err(Refused(2)));
+        let query: Vec<char> = "世x界".chars().collect();
+        let mut theirs = trie.common_prefix_search(query.iter().copied());
+        assert_eq!((theirs.next(), theirs.next()), (None, Some((0, 2))));
+        assert_eq!(listed(|v, l| plain(&arrays).common_prefix_search(&points(&query), v, l), 3), Ok(vec![]));
+        let long = vec!['世'; 65_536];
+        assert_eq!(trie.exact_match(long.iter().copied()), None);
+        assert_eq!(plain(&arrays).exact_match(&points(&long)), Err(Refused(12)));
+    }
+
     #[test]
     fn exact_match_on_damaged_arrays() {
         let mut random = Random::new("exact match, damaged", 3);
@@ -196,6 +214,11 @@ fn refusals_come_in_their_order() {
     let plain = Trie { table: &table, base: &base, check: &check };
     assert_eq!(plain.exact_match(&[0x61, 0xd800, 0xffff]), Err(Refused(11)));
     assert_eq!(plain.exact_match(&[0x61, 0xffff, 0xd800]), Err(Refused(2)));
+    let prefixes = |query: &[u32]| plain.common_prefix_search(query, &mut [], &mut []);
+    assert_eq!(prefixes(&[0x61, 0xd800, 0xffff]), Err(Refused(11)));
+    assert_eq!(prefixes(&[0x61, 0xffff, 0xd800]), Err(Refused(2)));
+    assert_eq!(prefixes(&vec![0xffff; 65_536]), Err(Refused(12)));
+    assert_eq!(prefixes(&[0x61]), Ok(0));
     assert_eq!(plain.exact_match(&[0x61, 0x11_0000]), Err(Refused(11)));
     assert_eq!(plain.exact_match(&vec![0x61; 65_535]), Ok(None));
     assert_eq!(plain.exact_match(&vec![0xffff; 65_536]), Err(Refused(12)));
@@ -225,6 +248,11 @@ fn the_minimal_prefix_form_refuses_too() {
     let minimal = MpTrie { table: &table, base: &base, check: &check, tails: &[], code_width: 1, value_width: 1 };
     assert_eq!(minimal.exact_match(&[0x61, 0xd800, 0xffff]), Err(Refused(11)));
     assert_eq!(minimal.exact_match(&[0x61, 0xffff, 0xd800]), Err(Refused(2)));
+    let prefixes = |query: &[u32]| minimal.common_prefix_search(query, &mut [], &mut []);
+    assert_eq!(prefixes(&[0x61, 0xd800, 0xffff]), Err(Refused(11)));
+    assert_eq!(prefixes(&[0x61, 0xffff, 0xd800]), Err(Refused(2)));
+    assert_eq!(prefixes(&vec![0xffff; 65_536]), Err(Refused(12)));
+    assert_eq!(prefixes(&[0x61]), Ok(0));
     assert_eq!(minimal.exact_match(&vec![0x61; 65_535]), Ok(None));
     assert_eq!(minimal.exact_match(&vec![0x61; 65_536]), Err(Refused(12)));
     let long = vec![0; 16_777_217];
