@@ -109,17 +109,20 @@ pub fn common_prefix_search(
     if values.len().min(lengths.len()) < matches {
         return Err(Refusal::MatchRoom);
     }
-    write(
-        table,
-        base,
-        check,
-        tails,
-        code_width,
-        value_width,
-        query,
-        values,
-        lengths,
-    );
+    // Most queries have none, and are not walked again.
+    if 0 < matches {
+        write(
+            table,
+            base,
+            check,
+            tails,
+            code_width,
+            value_width,
+            query,
+            values,
+            lengths,
+        );
+    }
     Ok(matches)
 }
 

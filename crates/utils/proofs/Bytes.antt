@@ -116,7 +116,7 @@ put_all out l i x n e h w =
 
 -- ---- the turns of `get_bytes`, from the highest byte down
 
-small_pow : (m : ℕ) → m ≤ 3 → 256 ^ m ≤ 16777216
+pub small_pow : (m : ℕ) → m ≤ 3 → 256 ^ m ≤ 16777216
 small_pow zero h = omega arith
 small_pow (suc zero) h = omega arith
 small_pow (suc (suc zero)) h = omega arith

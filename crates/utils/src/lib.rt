@@ -62,14 +62,16 @@ pub fn unpack_u32(slice: &[u8], nbytes: u8) -> Option<u32>
 }
 
 /// The length of the longest common prefix of `a` and `b`, and their order.
+// The order by the characters behind the prefix, where a key that ends is less, and not by `a.cmp(b)`, which reads both keys again: docs/SPEED.md.
 #[tactic(auto, using(crate::proofs::Prefix::shared_is_common))]
 pub fn longest_common_prefix(a: &[u32], b: &[u32]) -> Common
     ensures lcp { result.lcp ≡ common a.now b.now }
     ensures ord { result.ord ≡ ordering a.now b.now }
 {
+    let lcp = shared(a, b);
     Common {
-        lcp: shared(a, b),
-        ord: a.cmp(b),
+        lcp,
+        ord: a.get(lcp).cmp(&b.get(lcp)),
     }
 }
 
